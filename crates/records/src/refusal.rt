@@ -1,0 +1,41 @@
+// Why a sheet is refused, and where.
+ghost use mathlib.Core.Path.{_≡_};
+ghost use Rattle.records.specs.Refusals.{numberOf};
+
+#[derive(Clone, Copy)]
+pub enum SheetRefusal {
+    UnknownKind,
+    CutShort,
+    ShapeMisplaced,
+    OutOfRange,
+    Repeated,
+    TooManyPairs,
+    NotAnOrder,
+    BytesAfterEnd,
+    Incomplete,
+}
+
+impl SheetRefusal {
+    pub fn number(self) -> u8
+        ensures { λ r. ⌜ r ≡ numberOf self ⌝ }
+    {
+        match self {
+            SheetRefusal::UnknownKind => 1,
+            SheetRefusal::CutShort => 2,
+            SheetRefusal::ShapeMisplaced => 3,
+            SheetRefusal::OutOfRange => 4,
+            SheetRefusal::Repeated => 5,
+            SheetRefusal::TooManyPairs => 6,
+            SheetRefusal::NotAnOrder => 7,
+            SheetRefusal::BytesAfterEnd => 8,
+            SheetRefusal::Incomplete => 9,
+        }
+    }
+}
+
+// A refusal with the offset in the sheet that it speaks of.
+#[derive(Clone, Copy)]
+pub struct SheetFault {
+    pub refusal: SheetRefusal,
+    pub place: usize,
+}

@@ -1,0 +1,161 @@
+// What one record after the first makes of the sheet record.
+ghost use mathlib.Core.Path.{_≡_};
+ghost use mathlib.Core.Bool.{cond};
+ghost use Prim.Native.Nat.{_<_, _≤_};
+ghost use Rattle.std.specs.Results.{isOk};
+ghost use Rattle.records.specs.Forms.{fault};
+ghost use lib.Dec.{leb};
+ghost use lib.ListN.{getD};
+ghost use Rattle.std.specs.declared.option.Option.the-variants.{None};
+ghost use Rattle.std.specs.declared.result.Result.the-variants.{Ok, Err};
+ghost use Rattle.records.specs.declared.refusal.SheetRefusal.the-variants.{TooManyPairs};
+ghost use Rattle.sheets.specs.Taking.{letters, barsFit, entrant, once, onceOrdered, withTeam, withPair, withCap, withBars, withSeed, withScript, verdict, taken};
+use crate::order::is_order;
+use crate::sheet::Entrant;
+use crate::sheet::Sheet;
+use records::Record;
+use records::SheetFault;
+use records::SheetRefusal;
+
+fn capitals(code: [u8; 3]) -> bool
+    ensures { λ r. ⌜ r ≡ letters code ⌝ }
+{
+    match code {
+        [b'A'..=b'Z', b'A'..=b'Z', b'A'..=b'Z'] => true,
+        _ => false,
+    }
+}
+
+// Whether no bit at or above the number of groups is set.
+fn bars_fit(bars: u16, groups: u8) -> bool
+    ensures { λ r. ⌜ r ≡ barsFit bars groups ⌝ }
+{
+    groups <= 16 && (bars as u32) < (1u32 << groups as u32)
+}
+
+// The entrant that a T names: association 0 says that it has none.
+fn entrant_of(association: u8, code: [u8; 3]) -> Entrant
+    ensures { λ r. ⌜ r ≡ entrant association code ⌝ }
+{
+    let association = if association == 0 { None } else { Some(association) };
+    Entrant { association, code }
+}
+
+impl Sheet {
+    // Takes a T for a team of the shape.
+    fn put_team(&mut self, team: u8, entrant: Entrant, place: usize) -> Result<(), SheetFault>
+        requires { ⌜ team < 96 ⌝ }
+        ensures answer { λ r. ⌜ r ≡ once (getD (now (self .entry) .teams) team None) place ⌝ }
+        ensures after { λ r. ⌜ now (self .exit) ≡ cond (isOk r) (withTeam (now (self .entry)) team entrant) (now (self .entry)) ⌝ }
+    {
+        let slot = team as usize;
+        if self.teams[slot].is_some() {
+            return Err(SheetFault { refusal: SheetRefusal::Repeated, place });
+        }
+        self.teams[slot] = Some(entrant);
+        Ok(())
+    }
+
+    // Takes an X for two teams of the shape.
+    fn put_pair(&mut self, first: u8, second: u8, place: usize) -> Result<(), SheetFault>
+        ensures answer { λ r. ⌜ r ≡ cond (leb 64 (now (self .entry) .listed)) (Err (fault TooManyPairs place)) (Ok tt) ⌝ }
+        ensures after { λ r. ⌜ now (self .exit) ≡ cond (isOk r) (withPair (now (self .entry)) first second) (now (self .entry)) ⌝ }
+    {
+        let slot = self.listed;
+        if slot >= 64 {
+            return Err(SheetFault { refusal: SheetRefusal::TooManyPairs, place });
+        }
+        self.pairs[slot] = (first, second);
+        self.listed = slot + 1;
+        Ok(())
+    }
+
+    // Takes a C for an association from 1 to 64.
+    fn put_cap(&mut self, association: u8, most: u8, place: usize) -> Result<(), SheetFault>
+        requires { ⌜ association ≤ 64 ⌝ }
+        ensures answer { λ r. ⌜ r ≡ once (getD (now (self .entry) .caps) association None) place ⌝ }
+        ensures after { λ r. ⌜ now (self .exit) ≡ cond (isOk r) (withCap (now (self .entry)) association most) (now (self .entry)) ⌝ }
+    {
+        let slot = association as usize;
+        if self.caps[slot].is_some() {
+            return Err(SheetFault { refusal: SheetRefusal::Repeated, place });
+        }
+        self.caps[slot] = Some(most);
+        Ok(())
+    }
+
+    // Takes a B for a team of the shape.
+    fn put_bars(&mut self, team: u8, groups: u16, place: usize) -> Result<(), SheetFault>
+        requires { ⌜ team < 96 ⌝ }
+        ensures answer { λ r. ⌜ r ≡ once (getD (now (self .entry) .bars) team None) place ⌝ }
+        ensures after { λ r. ⌜ now (self .exit) ≡ cond (isOk r) (withBars (now (self .entry)) team groups) (now (self .entry)) ⌝ }
+    {
+        let slot = team as usize;
+        if self.bars[slot].is_some() {
+            return Err(SheetFault { refusal: SheetRefusal::Repeated, place });
+        }
+        self.bars[slot] = Some(groups);
+        Ok(())
+    }
+
+    fn put_seed(&mut self, seed: u64, place: usize) -> Result<(), SheetFault>
+        ensures answer { λ r. ⌜ r ≡ once (now (self .entry) .seed) place ⌝ }
+        ensures after { λ r. ⌜ now (self .exit) ≡ cond (isOk r) (withSeed (now (self .entry)) seed) (now (self .entry)) ⌝ }
+    {
+        if self.seed.is_some() {
+            return Err(SheetFault { refusal: SheetRefusal::Repeated, place });
+        }
+        self.seed = Some(seed);
+        Ok(())
+    }
+
+    // Takes an S for a pot of the shape: a second one is refused before the order is looked at.
+    fn put_script(&mut self, pot: u8, order: [u8; 16], place: usize) -> Result<(), SheetFault>
+        requires { ⌜ pot < 6 ⌝ }
+        ensures answer { λ r. ⌜ r ≡ onceOrdered (now (self .entry)) pot order place ⌝ }
+        ensures after { λ r. ⌜ now (self .exit) ≡ cond (isOk r) (withScript (now (self .entry)) pot order) (now (self .entry)) ⌝ }
+    {
+        let slot = pot as usize;
+        if self.scripts[slot].is_some() {
+            return Err(SheetFault { refusal: SheetRefusal::Repeated, place });
+        }
+        if !is_order(&order, self.shape.groups) {
+            return Err(SheetFault { refusal: SheetRefusal::NotAnOrder, place });
+        }
+        self.scripts[slot] = Some(order);
+        Ok(())
+    }
+
+    // Takes a record after the first, or tells why not; a refusal leaves the record as it is.
+    pub fn put(&mut self, item: Record, place: usize) -> Result<(), SheetFault>
+        ensures answer { λ r. ⌜ r ≡ verdict (now (self .entry)) item place ⌝ }
+        ensures after { λ r. ⌜ now (self .exit) ≡ cond (isOk r) (taken (now (self .entry)) item) (now (self .entry)) ⌝ }
+    {
+        let shape = self.shape;
+        match item {
+            Record::Shape { .. } => Err(SheetFault { refusal: SheetRefusal::ShapeMisplaced, place }),
+            Record::Team { pot: pot @ 0..=5, ball: ball @ 0..=15, association: association @ 0..=64, code }
+                if pot < shape.pots && ball < shape.groups && capitals(code) =>
+            {
+                self.put_team(16 * pot + ball, entrant_of(association, code), place)
+            }
+            Record::Pair { first, second } if first != second && shape.has_team(first) && shape.has_team(second) => {
+                self.put_pair(first, second, place)
+            }
+            Record::Cap { association: association @ 1..=64, most: most @ 1..=6 } => {
+                self.put_cap(association, most, place)
+            }
+            Record::Bars { team, groups } if shape.has_team(team) && bars_fit(groups, shape.groups) => {
+                self.put_bars(team, groups, place)
+            }
+            Record::Seed { seed } => self.put_seed(seed, place),
+            Record::Script { pot: pot @ 0..=5, order } if pot < shape.pots => self.put_script(pot, order, place),
+            Record::End => Ok(()),
+            Record::Team { .. }
+            | Record::Pair { .. }
+            | Record::Cap { .. }
+            | Record::Bars { .. }
+            | Record::Script { .. } => Err(SheetFault { refusal: SheetRefusal::OutOfRange, place }),
+        }
+    }
+}
