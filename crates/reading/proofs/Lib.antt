@@ -1,1 +1,4 @@
 pub mod Going
+pub mod Fronts
+pub mod Saying
+pub mod Judging
