@@ -399,7 +399,12 @@ def sources(out):
                  0x0102030405060708, 0x5A5A5A5A5A5A5A5A, 0x4747474747474747, 0x0A0A0A0A0A0A0A0A):
         out.add(SHORTEST[:2], U(seed), Z)
         out.add(SHORTEST[:2], U(seed), U(seed), Z)
-    out.add(SHORTEST[:2], U(1), U(2), Z)
+    for seed, other in ((1, 2), (0, 1), (1, 0)):
+        out.add(SHORTEST[:2], U(seed), U(other), Z)
+    # Seed 0 is a seed like any other.
+    for some in (ss(1, 2), ss(1, 2)[:1], ss(1, 2)[1:]):
+        out.add(plain(1, 2), U(0), some, Z)
+        out.add(plain(1, 2), some, U(0), Z)
     # With three pots: every choice of scripts, with and without a U, in either order.
     for choice in itertools.product((False, True), repeat=3):
         some = [script for script, taken in zip(ss(2, 3), choice) if taken]
@@ -475,7 +480,7 @@ def random_damage(out, chance):
                 del sheet[at]
         out.add(bytes(sheet))
     # The same with whole records: kinds and lengths stay right, so that the later tests are reached.
-    for _ in range(450):
+    for _ in range(440):
         records = valid(chance, 1 + chance.below(3), 1 + chance.below(2))
         for _ in range(1 + chance.below(2)):
             at = 1 + chance.below(len(records) - 1)
