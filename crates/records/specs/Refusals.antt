@@ -1,5 +1,8 @@
 -- The refusals of a sheet and their numbers. Assumes nothing.
 use Prim.Native.Nat.{ℕ}
+use Rattle.faults.specs.declared.Fault.{Fault}
+use Rattle.faults.specs.declared.Layer.the-variants.{Reading}
+use Rattle.records.specs.declared.refusal.SheetFault.{SheetFault}
 use Rattle.records.specs.declared.refusal.SheetRefusal.{SheetRefusal}
 use Rattle.records.specs.declared.refusal.SheetRefusal.the-variants.{UnknownKind, CutShort, ShapeMisplaced, OutOfRange, Repeated, TooManyPairs, NotAnOrder, BytesAfterEnd, Incomplete}
 
@@ -13,3 +16,7 @@ numberOf TooManyPairs = 6
 numberOf NotAnOrder = 7
 numberOf BytesAfterEnd = 8
 numberOf Incomplete = 9
+
+-- a fault of a sheet, as the layers above know it
+abbrev pub raised : SheetFault → Fault
+raised f = record { layer = Reading; number = numberOf (f .refusal); place = f .place }

@@ -5,4 +5,5 @@ mod item;
 pub use item::Record;
 pub use item::record_at;
 pub use refusal::SheetFault;
+pub use refusal::SheetFaultRaised;
 pub use refusal::SheetRefusal;

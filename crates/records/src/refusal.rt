@@ -1,6 +1,8 @@
 // Why a sheet is refused, and where.
 ghost use mathlib.Core.Path.{_≡_};
-ghost use Rattle.records.specs.Refusals.{numberOf};
+ghost use Rattle.records.specs.Refusals.{numberOf, raised};
+use faults::Fault;
+use faults::Layer;
 
 #[derive(Clone, Copy)]
 pub enum SheetRefusal {
@@ -38,4 +40,13 @@ impl SheetRefusal {
 pub struct SheetFault {
     pub refusal: SheetRefusal,
     pub place: usize,
+}
+
+// On the way up the fault keeps its number and its place, and has the layer of reading.
+pub impl From<SheetFault> for Fault as SheetFaultRaised {
+    ghost converts = { λ fault up. up ≡ raised fault };
+
+    fn from(fault: SheetFault) -> Fault {
+        Fault { layer: Layer::Reading, number: fault.refusal.number(), place: fault.place }
+    }
 }
