@@ -36,7 +36,7 @@ size-some (Script pot o) = lit≤ tt
 size-some End = lit≤ tt
 
 -- one turn of the reading
-abbrev turn : ℕ → Sheet → List ℕ → ℕ → ℕ → Result Record SheetFault → Result Sheet SheetFault
+abbrev pub turn : ℕ → Sheet → List ℕ → ℕ → ℕ → Result Record SheetFault → Result Sheet SheetFault
 turn n s bs at len d =
     bind d (λ r.
       atEnd r (bind (closed s at len) (λ _. Ok s))

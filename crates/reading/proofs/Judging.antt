@@ -128,3 +128,120 @@ decides-room sh rs (Bars n g) = decides-yes
 decides-room sh rs (Seed x) = decides-yes
 decides-room sh rs (Script pot o) = decides-yes
 decides-room sh rs End = decides-yes
+
+-- a byte of an order is in its place
+abbrev InPlace : ℕ → List ℕ → ℕ → Type 0
+InPlace balls o i =
+    (i < balls → (getD o i 0 < balls) × ((j : ℕ) → j < i → getD o j 0 ≡ getD o i 0 → ⊥)) × (balls ≤ i → getD o i 0 ≡ 255)
+
+decides-before : (o : List ℕ) (i : ℕ) → Decides (standsBefore o i) ((j : ℕ) × (j < i) × (getD o j 0 ≡ getD o i 0))
+decides-before o i = decides-any (λ j. eqb (getD o j 0) (getD o i 0)) (λ j. getD o j 0 ≡ getD o i 0) (λ j. decides-eqb (getD o j 0) (getD o i 0)) i
+
+decides-place : (balls : ℕ) (o : List ℕ) (i : ℕ) → Decides (inPlace balls o i) (InPlace balls o i)
+decides-place balls o i =
+    let no = decides-not (standsBefore o i) (decides-before o i) in
+    ⊎-elim
+    (λ l. (
+      λ h. (
+        λ _. (grind (arith, tells), λ j k e. no .0 (grind (arith, tells)) (j, k, e)),
+        λ g. absurd (omega arith),
+      ),
+      λ p. let b = p .0 l in let c = no .1 (λ q. b .1 (q .0) (q .1) (q .2)) in grind (arith, tells),
+    ))
+    (λ g. (
+      λ h. (λ l. absurd (omega arith), λ _. grind (arith, tells)),
+      λ p. let e = p .1 g in grind (arith, tells),
+    ))
+    (cases-lt i balls)
+
+decides-order : (balls : ℕ) (o : List ℕ) → Decides (isOrder balls o) (OrderOf balls o)
+decides-order balls o =
+    decides-like (isOrder balls o)
+    (λ h. record {
+      ball = λ i b l. h i l .0 b .0;
+      once = λ i j b l k e. h i l .0 b .1 j k e;
+      rest = λ i g l. h i l .1 g;
+    })
+    (λ p i l. (λ b. (p .ball i b l, λ j k e. p .once i j b l k e), λ g. p .rest i g l))
+    (decides-all (inPlace balls o) (InPlace balls o) (decides-place balls o) 16)
+
+pub decides-ordered : (sh : Shape) (r : Record) → Decides (ordered sh r) (Ordered sh r)
+decides-ordered sh (ShapeOf g p) = decides-yes
+decides-ordered sh (Team pot ball a c) = decides-yes
+decides-ordered sh (Pair a b) = decides-yes
+decides-ordered sh (Cap a m) = decides-yes
+decides-ordered sh (Bars n g) = decides-yes
+decides-ordered sh (Seed x) = decides-yes
+decides-ordered sh (Script pot o) = decides-order (sh .groups) o
+decides-ordered sh End = decides-yes
+
+-- the end
+module _ (sh : Shape) (rs : List Record) (z : Sized (sh .groups) (sh .pots)) where
+  decides-unless : {P Q : Type 0} (x y : Bool) → Decides x P → Decides y Q → Decides (not x || y) (P → Q)
+  decides-unless true y p q = (λ h _. q .0 h, λ f. q .1 (f (p .0 refl)))
+  decides-unless false y p q = (λ _ a. absurd (true≢false (sym (p .1 a))), λ _. refl)
+
+  team-there : (n : ℕ) → Decides (named (said sh rs) n) (HasTeam sh n → found (teamIn n) rs ≡ None → ⊥)
+  team-there n =
+      ⊎-elim
+      (λ l. decides-unless (hasTeam (said sh rs .shape) n) (isSome (getD (said sh rs .teams) n None))
+        (decides-at _ _ (ap (λ s. hasTeam s n) (shape-said sh rs)) (decides-has sh n))
+        (decides-at _ _ (ap isSome (team-said sh rs n l)) (decides-some (found (teamIn n) rs))))
+      (λ g. (λ _ p. absurd (omega arith), λ _. let e = shape-said sh rs in grind (arith, tells)))
+      (cases-lt n 96)
+
+  decides-named : Decides (allNamed (said sh rs)) ((n : ℕ) → HasTeam sh n → found (teamIn n) rs ≡ None → ⊥)
+  decides-named =
+      decides-like (allNamed (said sh rs)) (λ h n p. h n (p .0) p) (λ h n l p. h n p)
+      (decides-all (named (said sh rs)) (λ n. HasTeam sh n → found (teamIn n) rs ≡ None → ⊥) team-there 96)
+
+  script-there : (pot : ℕ) → pot < 6 → scripted (said sh rs) pot ≡ isSome (found (scriptIn pot) rs)
+  script-there pot l = ap isSome (script-said sh rs pot l)
+
+  not-so : (b : Bool) → (b ≡ true → ⊥) → not b ≡ true
+  not-so true h = absurd (h refl)
+  not-so false h = refl
+
+  decides-no-script : Decides (not (anyScript (said sh rs))) ((pot : ℕ) → pot < 6 → found (scriptIn pot) rs ≡ None)
+  decides-no-script =
+      let any = decides-any (scripted (said sh rs)) (λ pot. scripted (said sh rs) pot ≡ true) (λ pot. (λ h. h, λ h. h)) 6 in
+      decides-like (not (anyScript (said sh rs)))
+      (λ h pot l. decides-none (found (scriptIn pot) rs) .0 (ap not (sym (script-there pot l)) ∙ not-so (scripted (said sh rs) pot) (λ t. h (pot, l, t))))
+      (λ h q. true≢false (sym (q .2) ∙ script-there (q .0) (q .1) ∙ ap isSome (h (q .0) (q .1))))
+      (decides-not (anyScript (said sh rs)) any)
+
+  script-in : (pot : ℕ) → Decides (scriptedIn (said sh rs) pot) (pot < sh .pots → found (scriptIn pot) rs ≡ None → ⊥)
+  script-in pot =
+      ⊎-elim
+      (λ l. decides-unless (ltb pot (said sh rs .shape .pots)) (scripted (said sh rs) pot)
+        (decides-at _ _ (ap (λ s. ltb pot (s .pots)) (shape-said sh rs)) (decides-ltb pot (sh .pots)))
+        (decides-at _ _ (script-there pot l) (decides-some (found (scriptIn pot) rs))))
+      (λ g. (λ _ p. absurd (omega arith), λ _. let e = shape-said sh rs in grind (arith, tells)))
+      (cases-lt pot 6)
+
+  decides-scripts : Decides (allScripts (said sh rs)) ((pot : ℕ) → pot < sh .pots → found (scriptIn pot) rs ≡ None → ⊥)
+  decides-scripts =
+      decides-like (allScripts (said sh rs)) (λ h pot l. h pot (omega arith) l) (λ h pot _ l. h pot l)
+      (decides-all (scriptedIn (said sh rs)) (λ pot. pot < sh .pots → found (scriptIn pot) rs ≡ None → ⊥) script-in 6)
+
+  -- by whether a seed is there
+  by-seed : {P Q : Type 0} (o : Option ℕ) (x y : Bool) → Decides x P → Decides y Q
+      → Decides (cond (isSome o) x y) (((o ≡ None → ⊥) × P) ⊎ ((o ≡ None) × Q))
+  by-seed (Some v) x y p q = (
+    λ h. inl (λ e. let k : _≡_ {A = ℕ} 0 1 = cc in omega arith, p .0 h),
+    λ w. ⊎-elim (λ a. p .1 (a .1)) (λ b. let k = b .0 in let k : _≡_ {A = ℕ} 0 1 = cc in absurd (omega arith)) w,
+  )
+  by-seed None x y p q = (
+    λ h. inr (refl, q .0 h),
+    λ w. ⊎-elim (λ a. absurd (a .0 refl)) (λ b. q .1 (b .1)) w,
+  )
+
+  decides-source : Decides (hasSource (said sh rs)) (FromUrn rs ⊎ FromScripts sh rs)
+  decides-source =
+      decides-at _ _ (ap (λ o. cond (isSome o) (not (anyScript (said sh rs))) (allScripts (said sh rs))) (seed-said sh rs))
+      (by-seed (found seedIn rs) (not (anyScript (said sh rs))) (allScripts (said sh rs)) decides-no-script decides-scripts)
+
+  pub decides-whole : Decides (isWhole (said sh rs)) (Whole sh rs)
+  decides-whole =
+      decides-like (isWhole (said sh rs)) (λ p. record { named = p .0; source = p .1 }) (λ w. (w .named, w .source))
+      (decides-and (allNamed (said sh rs)) (hasSource (said sh rs)) decides-named decides-source)

@@ -2,3 +2,5 @@ pub mod Going
 pub mod Fronts
 pub mod Saying
 pub mod Judging
+pub mod Verdicts
+pub mod Exact

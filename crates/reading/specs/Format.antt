@@ -10,6 +10,8 @@ use lib.ListN.{length, getD, replicate}
 use Rattle.std.specs.Iters.{counting}
 use Rattle.std.specs.declared.option.Option.{Option}
 use Rattle.std.specs.declared.option.Option.the-variants.{Some, None}
+use Rattle.std.specs.declared.result.Result.{Result}
+use Rattle.std.specs.declared.result.Result.the-variants.{Ok, Err}
 use Rattle.shapes.specs.declared.Shape.{Shape}
 use Rattle.shapes.specs.Teams.{Sized, HasTeam}
 use Rattle.records.specs.declared.refusal.SheetFault.{SheetFault}
@@ -301,3 +303,13 @@ Refused bs f = (FailsFirst (f .refusal) bs × (f .place ≡ 0)) ⊎ FailsLater b
 -- each of two follows from the other
 abbrev pub Iff : Type 0 → Type 0 → Type 0
 Iff P Q = (P → Q) × (Q → P)
+
+-- what is read of the bytes: a sheet's record exactly where they are that sheet, a fault exactly where that is their first
+pub record Exact (bs : List ℕ) (o : Result Sheet SheetFault) : Type 0 where
+  pub accepted : (t : Sheet) → Iff (Accepted bs t) (o ≡ Ok t)
+  pub refused : (f : SheetFault) → Iff (Refused bs f) (o ≡ Err f)
+
+-- what a reading into a caller's record told: the record, or the fault
+abbrev pub told : Result (Unit {0}) SheetFault → Sheet → Result Sheet SheetFault
+told (Ok u) t = Ok t
+told (Err f) t = Err f

@@ -2,6 +2,7 @@
 ghost use mathlib.Core.Path.{_≡_};
 ghost use Prim.Native.Nat.{_<_};
 ghost use lib.ListN.{length};
+ghost use Rattle.reading.specs.Format.{Exact, told};
 ghost use Rattle.reading.specs.Reading.{opened, closed, reading, answered, filled};
 use records::Record;
 use records::SheetFault;
@@ -38,7 +39,8 @@ fn close(sheet: &Sheet, place: usize, len: usize) -> Result<(), SheetFault>
 }
 
 fn whole_sheet(bytes: &[u8]) -> Result<Sheet, SheetFault>
-    ensures { λ r. ⌜ r ≡ reading (now (bytes .entry)) ⌝ }
+    ensures value { λ r. ⌜ r ≡ reading (now (bytes .entry)) ⌝ }
+    ensures exact { λ r. ⌜ Exact (now (bytes .entry)) r ⌝ }
 {
     let mut sheet = begin(bytes)?;
     let mut place = 3;
@@ -54,11 +56,13 @@ fn whole_sheet(bytes: &[u8]) -> Result<Sheet, SheetFault>
     Ok(sheet)
 }
 
-// Fills the caller's sheet record with what the sheet says, or leaves it as it is.
+// Fills the caller's sheet record with what the sheet says, or leaves it as it is and tells the first fault.
 pub fn read(bytes: &[u8], sheet: &mut Sheet) -> Result<(), SheetFault>
     ensures answer { λ r. ⌜ r ≡ answered (reading (now (bytes .entry))) ⌝ }
     ensures after { λ _. ⌜ now (sheet .exit) ≡ filled (reading (now (bytes .entry))) (now (sheet .entry)) ⌝ }
+    ensures exact { λ r. ⌜ Exact (now (bytes .entry)) (told r (now (sheet .exit))) ⌝ }
 {
-    *sheet = whole_sheet(bytes)?;
+    let said = whole_sheet(bytes)?;
+    *sheet = said;
     Ok(())
 }
