@@ -5,11 +5,11 @@ ghost use Prim.Native.Nat.{_<_, _≤_};
 ghost use Rattle.std.specs.Results.{isOk};
 ghost use Rattle.records.specs.Forms.{fault};
 ghost use lib.Dec.{leb};
-ghost use lib.ListN.{getD};
-ghost use Rattle.std.specs.declared.option.Option.the-variants.{None};
+ghost use lib.ListN.{getD, length, set};
+ghost use Rattle.std.specs.declared.option.Option.the-variants.{None, Some};
 ghost use Rattle.std.specs.declared.result.Result.the-variants.{Ok, Err};
 ghost use Rattle.records.specs.declared.refusal.SheetRefusal.the-variants.{TooManyPairs};
-ghost use Rattle.sheets.specs.Taking.{letters, barsFit, entrant, once, onceOrdered, withTeam, withPair, withCap, withBars, withSeed, withScript, verdict, taken};
+ghost use Rattle.sheets.specs.Taking.{letters, barsFit, entrant, once, onceOrdered, withPair, withSeed, withScript, verdict, taken};
 use crate::order::is_order;
 use crate::sheet::Entrant;
 use crate::sheet::Sheet;
@@ -41,21 +41,20 @@ fn entrant_of(association: u8, code: [u8; 3]) -> Entrant
     Entrant { association, code }
 }
 
-impl Sheet {
-    // Takes a T for a team of the shape.
-    fn put_team(&mut self, team: u8, entrant: Entrant, place: usize) -> Result<(), SheetFault>
-        requires { ⌜ team < 96 ⌝ }
-        ensures answer { λ r. ⌜ r ≡ once (getD (now (self .entry) .teams) team None) place ⌝ }
-        ensures after { λ r. ⌜ now (self .exit) ≡ cond (isOk r) (withTeam (now (self .entry)) team entrant) (now (self .entry)) ⌝ }
-    {
-        let slot = team as usize;
-        if self.teams[slot].is_some() {
-            return Err(SheetFault { refusal: SheetRefusal::Repeated, place });
-        }
-        self.teams[slot] = Some(entrant);
-        Ok(())
+// Fills a slot that may be filled once.
+fn fill_once<T: Copy>(slots: &mut [Option<T>], slot: usize, value: T, place: usize) -> Result<(), SheetFault>
+    requires { ⌜ slot < length (now slots) ⌝ }
+    ensures answer { λ r. ⌜ r ≡ once (getD (now (slots .entry)) slot None) place ⌝ }
+    ensures after { λ r. ⌜ now (slots .exit) ≡ cond (isOk r) (set (now (slots .entry)) slot (Some value)) (now (slots .entry)) ⌝ }
+{
+    if slots[slot].is_some() {
+        return Err(SheetFault { refusal: SheetRefusal::Repeated, place });
     }
+    slots[slot] = Some(value);
+    Ok(())
+}
 
+impl Sheet {
     // Takes an X for two teams of the shape.
     fn put_pair(&mut self, first: u8, second: u8, place: usize) -> Result<(), SheetFault>
         ensures answer { λ r. ⌜ r ≡ cond (leb 64 (now (self .entry) .listed)) (Err (fault TooManyPairs place)) (Ok tt) ⌝ }
@@ -67,34 +66,6 @@ impl Sheet {
         }
         self.pairs[slot] = (first, second);
         self.listed = slot + 1;
-        Ok(())
-    }
-
-    // Takes a C for an association from 1 to 64.
-    fn put_cap(&mut self, association: u8, most: u8, place: usize) -> Result<(), SheetFault>
-        requires { ⌜ association ≤ 64 ⌝ }
-        ensures answer { λ r. ⌜ r ≡ once (getD (now (self .entry) .caps) association None) place ⌝ }
-        ensures after { λ r. ⌜ now (self .exit) ≡ cond (isOk r) (withCap (now (self .entry)) association most) (now (self .entry)) ⌝ }
-    {
-        let slot = association as usize;
-        if self.caps[slot].is_some() {
-            return Err(SheetFault { refusal: SheetRefusal::Repeated, place });
-        }
-        self.caps[slot] = Some(most);
-        Ok(())
-    }
-
-    // Takes a B for a team of the shape.
-    fn put_bars(&mut self, team: u8, groups: u16, place: usize) -> Result<(), SheetFault>
-        requires { ⌜ team < 96 ⌝ }
-        ensures answer { λ r. ⌜ r ≡ once (getD (now (self .entry) .bars) team None) place ⌝ }
-        ensures after { λ r. ⌜ now (self .exit) ≡ cond (isOk r) (withBars (now (self .entry)) team groups) (now (self .entry)) ⌝ }
-    {
-        let slot = team as usize;
-        if self.bars[slot].is_some() {
-            return Err(SheetFault { refusal: SheetRefusal::Repeated, place });
-        }
-        self.bars[slot] = Some(groups);
         Ok(())
     }
 
@@ -137,16 +108,16 @@ impl Sheet {
             Record::Team { pot: pot @ 0..=5, ball: ball @ 0..=15, association: association @ 0..=64, code }
                 if pot < shape.pots && ball < shape.groups && capitals(code) =>
             {
-                self.put_team(16 * pot + ball, entrant_of(association, code), place)
+                fill_once(&mut self.teams, (16 * pot + ball) as usize, entrant_of(association, code), place)
             }
             Record::Pair { first, second } if first != second && shape.has_team(first) && shape.has_team(second) => {
                 self.put_pair(first, second, place)
             }
             Record::Cap { association: association @ 1..=64, most: most @ 1..=6 } => {
-                self.put_cap(association, most, place)
+                fill_once(&mut self.caps, association as usize, most, place)
             }
             Record::Bars { team, groups } if shape.has_team(team) && bars_fit(groups, shape.groups) => {
-                self.put_bars(team, groups, place)
+                fill_once(&mut self.bars, team as usize, groups, place)
             }
             Record::Seed { seed } => self.put_seed(seed, place),
             Record::Script { pot: pot @ 0..=5, order } if pot < shape.pots => self.put_script(pot, order, place),
