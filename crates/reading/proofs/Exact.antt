@@ -98,9 +98,9 @@ module _ (bs : List ℕ) (sh : Shape) where
       let go : Result (Unit {0}) SheetFault → Type 0 = λ o. Out bs (bind o (λ _. Ok (said sh rs))) in
       ⊎-elim
       (λ k. subst go (sym (closed-early (said sh rs) at (length bs) (omega arith)))
-        (later rs at rest (fault BytesAfterEnd (at + 1)) 1 g (ends-early rest w k, refl) refl))
+      (later rs at rest (fault BytesAfterEnd (at + 1)) 1 g (ends-early rest w k, refl) refl))
       (λ k. subst go (sym (closed-late (said sh rs) at (length bs) (omega arith)))
-        (by-whole rs at rest g (ends-here rest w k) (isWhole (said sh rs)) (decides-whole sh rs (g .sized))))
+      (by-whole rs at rest g (ends-here rest w k) (isWhole (said sh rs)) (decides-whole sh rs (g .sized))))
       (cases-lt 1 (length rest))
 
   -- the reading goes on from records in order
@@ -125,9 +125,9 @@ module _ (bs : List ℕ) (sh : Shape) where
         ⊎-elim
         (λ e. subst (λ q. Out bs (turn n (said sh rs) rest at (length bs) (Ok q))) (sym e) (at-end rs at rest g (subst (λ q. Front q rest) e (front-of rest at r d))))
         (λ ne.
-          subst (Out bs)
-          (sym (not-end r (bind (closed (said sh rs) at (length bs)) (λ _. Ok (said sh rs))) (bind (verdict (said sh rs) r at) (λ _. going n (taken (said sh rs) r) (drop (sizeOf r) rest) (at + sizeOf r) (length bs))) ne))
-          (by-verdict r d (verdict (said sh rs) r at) (judged sh rs r rest at (front-of rest at r d) ne (g .sized))))
+        subst (Out bs)
+        (sym (not-end r (bind (closed (said sh rs) at (length bs)) (λ _. Ok (said sh rs))) (bind (verdict (said sh rs) r at) (λ _. going n (taken (said sh rs) r) (drop (sizeOf r) rest) (at + sizeOf r) (length bs))) ne))
+        (by-verdict r d (verdict (said sh rs) r at) (judged sh rs r rest at (front-of rest at r d) ne (g .sized))))
         (end-or-not r)
 
   -- the reading from a place on, with records in order before it
@@ -197,8 +197,8 @@ shape-begun sh z = cond-true _ _ _ (sized-to (sh .groups) (sh .pots) z)
 opens : (bs : List ℕ) (sh : Shape) (rest : List ℕ) → bs ≡ 71 ∷ sh .groups ∷ sh .pots ∷ rest → Sized (sh .groups) (sh .pots) → opened bs ≡ Ok (blank sh)
 opens bs sh rest e z =
     ap (λ l. bind (decoded l 0) shaped) e
-      ∙ ap (λ d. bind d shaped) (reads (ShapeOf (sh .groups) (sh .pots)) (71 ∷ sh .groups ∷ sh .pots ∷ []) rest 0 refl)
-      ∙ ap begun (shape-begun sh z)
+    ∙ ap (λ d. bind d shaped) (reads (ShapeOf (sh .groups) (sh .pots)) (71 ∷ sh .groups ∷ sh .pots ∷ []) rest 0 refl)
+    ∙ ap begun (shape-begun sh z)
 
 -- the reading comes to the end of records in order
 reach : (bs : List ℕ) (sh : Shape) (rs : List Record) (at : ℕ) (rest : List ℕ) → Begun bs sh rs at rest → Sofar bs (said sh rs) at
@@ -239,7 +239,7 @@ accepted-reads bs t w =
     let d : decoded (drop at bs) at ≡ Ok End = ap (λ l. decoded l at) (begun-drop bs sh rs at (90 ∷ []) b) ∙ end-at [] at in
     let l = whole-length bs sh rs at (90 ∷ []) b in
     let c : closed (said sh rs) at (length bs) ≡ Ok tt =
-        closed-late (said sh rs) at (length bs) (omega arith) ∙ cond-true _ _ _ (decides-whole sh rs (b .sized) .1 (w .whole)) in
+    closed-late (said sh rs) at (length bs) (omega arith) ∙ cond-true _ _ _ (decides-whole sh rs (b .sized) .1 (w .whole)) in
     sym (ended bs (said sh rs) at s End d refl (Ok tt) c) ∙ ap Ok (sym (w .says))
 
 -- a fault is told
@@ -318,8 +318,8 @@ first-fails bs ShapeMisplaced x =
     unshaped bs (x .0) (ap (λ l. decoded l 0) (w .3) ∙ reads (x .0) (w .0) (w .1) 0 (w .2)) (x .2)
 first-fails bs OutOfRange x =
     ap (λ l. bind (decoded l 0) shaped) (x .3)
-      ∙ ap (λ d. bind d shaped) (reads (ShapeOf (x .0) (x .1)) (71 ∷ x .0 ∷ x .1 ∷ []) (x .2) 0 refl)
-      ∙ ap begun (cond-false (sized (x .0) (x .1)) (Some (shape-of (x .0) (x .1))) None (no-whole (sized (x .0) (x .1)) (sized-from (x .0) (x .1), sized-to (x .0) (x .1)) (x .4)))
+    ∙ ap (λ d. bind d shaped) (reads (ShapeOf (x .0) (x .1)) (71 ∷ x .0 ∷ x .1 ∷ []) (x .2) 0 refl)
+    ∙ ap begun (cond-false (sized (x .0) (x .1)) (Some (shape-of (x .0) (x .1))) None (no-whole (sized (x .0) (x .1)) (sized-from (x .0) (x .1), sized-to (x .0) (x .1)) (x .4)))
 first-fails bs Repeated x = absurd x
 first-fails bs TooManyPairs x = absurd x
 first-fails bs NotAnOrder x = absurd x

@@ -39,8 +39,8 @@ size-some End = lit≤ tt
 abbrev pub turn : ℕ → Sheet → List ℕ → ℕ → ℕ → Result Record SheetFault → Result Sheet SheetFault
 turn n s bs at len d =
     bind d (λ r.
-      atEnd r (bind (closed s at len) (λ _. Ok s))
-      (bind (verdict s r at) (λ _. going n (taken s r) (drop (sizeOf r) bs) (at + sizeOf r) len)))
+    atEnd r (bind (closed s at len) (λ _. Ok s))
+    (bind (verdict s r at) (λ _. going n (taken s r) (drop (sizeOf r) bs) (at + sizeOf r) len)))
 
 pub going-err : (n : ℕ) (s : Sheet) (bs : List ℕ) (at len : ℕ) (f : SheetFault) → length bs ≤ n → decoded bs at ≡ Err f → going n s bs at len ≡ Err f
 unfolding going
@@ -123,9 +123,9 @@ module _ (bytes : List ℕ) (s : Sheet) (p : ℕ) (at : Sofar bytes s p) where
     next o v =
         let g = going-put (at .left) s (drop p bytes) p (length bytes) r long d ne in
         ap (λ q. bind q (λ _. going (g .0) (taken s r) (drop (p + sizeOf r) bytes) (p + sizeOf r) (length bytes))) (sym v)
-          ∙ ap (λ l. bind (verdict s r p) (λ _. going (g .0) (taken s r) l (p + sizeOf r) (length bytes))) (sym (drop-drop (sizeOf r) p bytes))
-          ∙ sym (g .2)
-          ∙ at .leads
+        ∙ ap (λ l. bind (verdict s r p) (λ _. going (g .0) (taken s r) l (p + sizeOf r) (length bytes))) (sym (drop-drop (sizeOf r) p bytes))
+        ∙ sym (g .2)
+        ∙ at .leads
 
     pub put-err : (f : SheetFault) → verdict s r p ≡ Err f → Err f ≡ reading bytes
     put-err f v = next (Err f) v

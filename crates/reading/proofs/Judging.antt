@@ -14,7 +14,8 @@ use Rattle.std.proofs.shelf.Ways.{tells, decides-at, decides-like, decides-not,
 use Rattle.std.specs.declared.option.Option.{Option}
 use Rattle.std.specs.declared.option.Option.the-variants.{Some, None}
 use Rattle.shapes.specs.declared.Shape.{Shape}
-use Rattle.shapes.specs.Teams.{Sized, HasTeam, hasTeam}
+use Rattle.shapes.specs.Teams.{Sized, ballsOf, HasTeam, hasTeam}
+use Rattle.shapes.proofs.Balls.{ball-number}
 use Rattle.records.specs.declared.item.Record.{Record}
 use Rattle.records.specs.declared.item.Record.the-variants.{Shape as ShapeOf, Team, Pair, Cap, Bars, Seed, Script, End}
 use Rattle.sheets.specs.declared.sheet.Sheet.{Sheet}
@@ -82,11 +83,10 @@ decides-shape (Script pot o) = (λ h. apart h, λ e. absurd (let k = e .2 in let
 decides-shape End = (λ h. apart h, λ e. absurd (let k = e .2 in let z : _≡_ {A = ℕ} 0 1 = cc in omega arith))
 
 decides-has : (sh : Shape) (n : ℕ) → Decides (hasTeam sh n) (HasTeam sh n)
-decides-has sh n = (λ h. (grind (arith, tells), grind (arith, tells), grind (arith, tells)), λ p. grind (arith, tells))
+decides-has sh n = (λ h. (grind (arith, tells), grind (arith, tells)), λ p. grind (arith, tells))
 
 team-from : (sh : Shape) (pot ball a : ℕ) (c : List ℕ) → fits sh (Team pot ball a c) ≡ true → Fits sh (Team pot ball a c)
 team-from sh pot ball a c h = (
-  grind (arith, tells),
   grind (arith, tells),
   grind (arith, tells),
   ((grind (arith, tells), grind (arith, tells)), (grind (arith, tells), grind (arith, tells)), (grind (arith, tells), grind (arith, tells))),
@@ -111,7 +111,7 @@ decides-fits sh End z = decides-yes
 pub decides-fresh : (sh : Shape) (rs : List Record) (r : Record) → Sized (sh .groups) (sh .pots) → Fits sh r → Decides (not (repeated (said sh rs) r)) (Fresh rs r)
 decides-fresh sh rs (ShapeOf g p) z f = decides-yes
 decides-fresh sh rs (Team pot ball a c) z f =
-    decides-at _ _ (ap (λ o. not (isSome o)) (team-said sh rs (16 * pot + ball) (omega arith))) (decides-none (found (teamIn (16 * pot + ball)) rs))
+    decides-at _ _ (ap (λ o. not (isSome o)) (team-said sh rs (16 * pot + ball) (ball-number sh pot ball z (f .0)))) (decides-none (found (teamIn (16 * pot + ball)) rs))
 decides-fresh sh rs (Pair a b) z f = decides-yes
 decides-fresh sh rs (Cap a m) z f = decides-at _ _ (ap (λ o. not (isSome o)) (cap-said sh rs a (omega arith))) (decides-none (found (capIn a) rs))
 decides-fresh sh rs (Bars n g) z f = decides-at _ _ (ap (λ o. not (isSome o)) (bars-said sh rs n (omega arith))) (decides-none (found (barsIn n) rs))
@@ -172,7 +172,7 @@ decides-ordered sh (Pair a b) = decides-yes
 decides-ordered sh (Cap a m) = decides-yes
 decides-ordered sh (Bars n g) = decides-yes
 decides-ordered sh (Seed x) = decides-yes
-decides-ordered sh (Script pot o) = decides-order (sh .groups) o
+decides-ordered sh (Script pot o) = decides-order (ballsOf sh pot) o
 decides-ordered sh End = decides-yes
 
 -- the end
@@ -185,8 +185,8 @@ module _ (sh : Shape) (rs : List Record) (z : Sized (sh .groups) (sh .pots)) whe
   team-there n =
       ⊎-elim
       (λ l. decides-unless (hasTeam (said sh rs .shape) n) (isSome (getD (said sh rs .teams) n None))
-        (decides-at _ _ (ap (λ s. hasTeam s n) (shape-said sh rs)) (decides-has sh n))
-        (decides-at _ _ (ap isSome (team-said sh rs n l)) (decides-some (found (teamIn n) rs))))
+      (decides-at _ _ (ap (λ s. hasTeam s n) (shape-said sh rs)) (decides-has sh n))
+      (decides-at _ _ (ap isSome (team-said sh rs n l)) (decides-some (found (teamIn n) rs))))
       (λ g. (λ _ p. absurd (omega arith), λ _. let e = shape-said sh rs in grind (arith, tells)))
       (cases-lt n 96)
 
@@ -214,8 +214,8 @@ module _ (sh : Shape) (rs : List Record) (z : Sized (sh .groups) (sh .pots)) whe
   script-in pot =
       ⊎-elim
       (λ l. decides-unless (ltb pot (said sh rs .shape .pots)) (scripted (said sh rs) pot)
-        (decides-at _ _ (ap (λ s. ltb pot (s .pots)) (shape-said sh rs)) (decides-ltb pot (sh .pots)))
-        (decides-at _ _ (script-there pot l) (decides-some (found (scriptIn pot) rs))))
+      (decides-at _ _ (ap (λ s. ltb pot (s .pots)) (shape-said sh rs)) (decides-ltb pot (sh .pots)))
+      (decides-at _ _ (script-there pot l) (decides-some (found (scriptIn pot) rs))))
       (λ g. (λ _ p. absurd (omega arith), λ _. let e = shape-said sh rs in grind (arith, tells)))
       (cases-lt pot 6)
 

@@ -15,6 +15,7 @@ use Rattle.std.specs.declared.option.Option.{Option}
 use Rattle.std.specs.declared.option.Option.the-variants.{Some, None}
 use Rattle.shapes.specs.declared.Shape.{Shape}
 use Rattle.shapes.specs.Teams.{Sized}
+use Rattle.shapes.proofs.Balls.{ball-number}
 use Rattle.records.specs.declared.item.Record.{Record}
 use Rattle.records.specs.declared.item.Record.the-variants.{Shape as ShapeOf, Team, Pair, Cap, Bars, Seed, Script, End}
 use Rattle.sheets.specs.declared.sheet.Sheet.{Sheet}
@@ -43,10 +44,10 @@ module _ {X : Type 0} where
   set-each n i f g x h same other =
       is-each n g (set (each n f) i x) x (length-set (each n f) i x ∙ length-each n f)
       (λ k l.
-        ⊎-elim
-        (λ e. let in′ : i < length (each n f) = rw length-each h in ap (λ j. getD (set (each n f) i x) j x) e ∙ getD-set-same (each n f) i x x in′ ∙ sym same ∙ ap g (sym e))
-        (λ ne. getD-set-other (each n f) i k x x ne ∙ getD-each n f k x l ∙ sym (other k ne))
-        (cases-eq k i))
+      ⊎-elim
+      (λ e. let in′ : i < length (each n f) = rw length-each h in ap (λ j. getD (set (each n f) i x) j x) e ∙ getD-set-same (each n f) i x x in′ ∙ sym same ∙ ap g (sym e))
+      (λ ne. getD-set-other (each n f) i k x x ne ∙ getD-each n f k x l ∙ sym (other k ne))
+      (cases-eq k i))
 
   -- a look-up, at the number that a record is of, and at any other
   pub for-same : (n : ℕ) (x : X) (o : Option X) → orElse (for n n x) o ≡ Some x
@@ -77,17 +78,17 @@ set-pairs ps p h =
     let z : length ps - length ps ≡ 0 = omega arith in
     let k : length (ps ++ p ∷ []) ≡ length ps + 1 = length-append ps (p ∷ []) in
     ap (λ m. set (ps ++ replicate m (0, 0)) (length ps) p) e
-      ∙ set-append-right ps (replicate (suc n) (0, 0)) (length ps) (length ps) p refl (omega arith)
-      ∙ ap (λ m. ps ++ set (replicate (suc n) (0, 0)) m p) z
-      ∙ sym (append-assoc ps (p ∷ []) (replicate n (0, 0)))
-      ∙ ap (λ m. (ps ++ p ∷ []) ++ replicate (64 - m) (0, 0)) (sym k)
+    ∙ set-append-right ps (replicate (suc n) (0, 0)) (length ps) (length ps) p refl (omega arith)
+    ∙ ap (λ m. ps ++ set (replicate (suc n) (0, 0)) m p) z
+    ∙ sym (append-assoc ps (p ∷ []) (replicate n (0, 0)))
+    ∙ ap (λ m. (ps ++ p ∷ []) ++ replicate (64 - m) (0, 0)) (sym k)
 
 -- one record more
 pub said-more : (sh : Shape) (rs : List Record) (r : Record) → Sized (sh .groups) (sh .pots) → Fits sh r → Room rs r → taken (said sh rs) r ≡ said sh (r ∷ rs)
 unfolding said
 said-more sh rs (ShapeOf g p) z f m = refl
 said-more sh rs (Team pot ball a c) z f m =
-    let e = set-for 96 (16 * pot + ball) (λ n. found (teamIn n) rs) (entrant a c) (omega arith) in
+    let e = set-for 96 (16 * pot + ball) (λ n. found (teamIn n) rs) (entrant a c) (ball-number sh pot ball z (f .0)) in
     cc
 said-more sh rs (Pair a b) z f m =
     let e = set-pairs (pairsIn rs) (a, b) m in

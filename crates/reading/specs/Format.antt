@@ -13,7 +13,7 @@ use Rattle.std.specs.declared.option.Option.the-variants.{Some, None}
 use Rattle.std.specs.declared.result.Result.{Result}
 use Rattle.std.specs.declared.result.Result.the-variants.{Ok, Err}
 use Rattle.shapes.specs.declared.Shape.{Shape}
-use Rattle.shapes.specs.Teams.{Sized, HasTeam}
+use Rattle.shapes.specs.Teams.{Sized, ballsOf, HasTeam}
 use Rattle.records.specs.declared.refusal.SheetFault.{SheetFault}
 use Rattle.records.specs.declared.refusal.SheetRefusal.{SheetRefusal}
 use Rattle.records.specs.declared.refusal.SheetRefusal.the-variants.{UnknownKind, CutShort, ShapeMisplaced, OutOfRange, Repeated, TooManyPairs, NotAnOrder, BytesAfterEnd, Incomplete}
@@ -43,7 +43,7 @@ Unknown bs = (kind : ℕ) × (rest : List ℕ) × (bs ≡ kind ∷ rest) × (bod
 abbrev pub Short : List ℕ → Type 0
 Short bs =
     (bs ≡ [])
-      ⊎ ((kind : ℕ) × (rest : List ℕ) × (n : ℕ) × (bs ≡ kind ∷ rest) × (bodyOf kind ≡ Some n) × (length rest < n))
+    ⊎ ((kind : ℕ) × (rest : List ℕ) × (n : ℕ) × (bs ≡ kind ∷ rest) × (bodyOf kind ≡ Some n) × (length rest < n))
 
 -- What records say
 
@@ -159,7 +159,7 @@ pub record OrderOf (balls : ℕ) (order : List ℕ) : Type 0 where
 abbrev pub Fits : Shape → Record → Type 0
 Fits sh (ShapeOf g p) = Unit {0}
 Fits sh (Team pot ball a c) =
-    (pot < sh .pots) × (ball < sh .groups) × (a ≤ 64) × (Capital (getD c 0 0) × Capital (getD c 1 0) × Capital (getD c 2 0))
+    (ball < ballsOf sh pot) × (a ≤ 64) × (Capital (getD c 0 0) × Capital (getD c 1 0) × Capital (getD c 2 0))
 Fits sh (Pair a b) = (a ≡ b → ⊥) × HasTeam sh a × HasTeam sh b
 Fits sh (Cap a m) = ((1 ≤ a) × (a ≤ 64)) × ((1 ≤ m) × (m ≤ 6))
 Fits sh (Bars n g) = HasTeam sh n × (g < 2 ^ sh .groups)
@@ -189,7 +189,7 @@ Room rs (Seed x) = Unit {0}
 Room rs (Script pot o) = Unit {0}
 Room rs End = Unit {0}
 
--- a script is an order of its pot, which has a ball for each group
+-- a script is an order of its pot
 abbrev pub Ordered : Shape → Record → Type 0
 Ordered sh (ShapeOf g p) = Unit {0}
 Ordered sh (Team pot ball a c) = Unit {0}
@@ -197,7 +197,7 @@ Ordered sh (Pair a b) = Unit {0}
 Ordered sh (Cap a m) = Unit {0}
 Ordered sh (Bars n g) = Unit {0}
 Ordered sh (Seed x) = Unit {0}
-Ordered sh (Script pot o) = OrderOf (sh .groups) o
+Ordered sh (Script pot o) = OrderOf (ballsOf sh pot) o
 Ordered sh End = Unit {0}
 
 -- the record is a G

@@ -63,8 +63,8 @@ unfoldable pub going : ℕ → Sheet → List ℕ → ℕ → ℕ → Result She
 going zero s bs at len = Err (fault CutShort at)
 going (suc n) s bs at len =
     bind (decoded bs at) (λ r.
-      atEnd r (bind (closed s at len) (λ _. Ok s))
-      (bind (verdict s r at) (λ _. going n (taken s r) (drop (sizeOf r) bs) (at + sizeOf r) len)))
+    atEnd r (bind (closed s at len) (λ _. Ok s))
+    (bind (verdict s r at) (λ _. going n (taken s r) (drop (sizeOf r) bs) (at + sizeOf r) len)))
 
 unfoldable pub reading : List ℕ → Result Sheet SheetFault
 reading bs = bind (opened bs) (λ s. going (length bs) s (drop 3 bs) 3 (length bs))

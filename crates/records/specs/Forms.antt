@@ -20,11 +20,11 @@ use Rattle.records.specs.declared.item.Record.the-variants.{Shape, Team, Pair,
 abbrev pub eight : List ℕ → ℕ
 eight bs =
     getD bs 0 0 * 72057594037927936 + getD bs 1 0 * 281474976710656 + getD bs 2 0 * 1099511627776
-      + getD bs 3 0 * 4294967296
-      + getD bs 4 0 * 16777216
-      + getD bs 5 0 * 65536
-      + getD bs 6 0 * 256
-      + getD bs 7 0
+    + getD bs 3 0 * 4294967296
+    + getD bs 4 0 * 16777216
+    + getD bs 5 0 * 65536
+    + getD bs 6 0 * 256
+    + getD bs 7 0
 
 -- the bytes are those of the record: a byte of kind, then the body
 abbrev pub Form : Record → List ℕ → Type 0

@@ -7,13 +7,35 @@ use crate::refusal::SheetRefusal;
 // What a record says, its fields not yet held against the shape.
 #[derive(Clone, Copy)]
 pub enum Record {
-    Shape { groups: u8, pots: u8 },
-    Team { pot: u8, ball: u8, association: u8, code: [u8; 3] },
-    Pair { first: u8, second: u8 },
-    Cap { association: u8, most: u8 },
-    Bars { team: u8, groups: u16 },
-    Seed { seed: u64 },
-    Script { pot: u8, order: [u8; 16] },
+    Shape {
+        groups: u8,
+        pots: u8,
+    },
+    Team {
+        pot: u8,
+        ball: u8,
+        association: u8,
+        code: [u8; 3],
+    },
+    Pair {
+        first: u8,
+        second: u8,
+    },
+    Cap {
+        association: u8,
+        most: u8,
+    },
+    Bars {
+        team: u8,
+        groups: u16,
+    },
+    Seed {
+        seed: u64,
+    },
+    Script {
+        pot: u8,
+        order: [u8; 16],
+    },
     End,
 }
 
@@ -38,25 +60,70 @@ pub fn record_at(rest: &[u8], place: usize) -> Result<Record, SheetFault>
     ensures { λ r. ⌜ r ≡ decoded (now (rest .entry)) place ⌝ }
 {
     match rest {
-        [b'G', groups, pots, ..] => Ok(Record::Shape { groups: *groups, pots: *pots }),
+        [b'G', groups, pots, ..] => Ok(Record::Shape {
+            groups: *groups,
+            pots: *pots,
+        }),
         [b'T', pot, ball, association, a, b, c, ..] => {
-            Ok(Record::Team { pot: *pot, ball: *ball, association: *association, code: [*a, *b, *c] })
+            Ok(Record::Team {
+                pot: *pot,
+                ball: *ball,
+                association: *association,
+                code: [*a, *b, *c],
+            })
         }
-        [b'X', first, second, ..] => Ok(Record::Pair { first: *first, second: *second }),
-        [b'C', association, most, ..] => Ok(Record::Cap { association: *association, most: *most }),
-        [b'B', team, high, low, ..] => Ok(Record::Bars { team: *team, groups: u16::from_be_bytes([*high, *low]) }),
+        [b'X', first, second, ..] => Ok(Record::Pair {
+            first: *first,
+            second: *second,
+        }),
+        [b'C', association, most, ..] => Ok(Record::Cap {
+            association: *association,
+            most: *most,
+        }),
+        [b'B', team, high, low, ..] => Ok(Record::Bars {
+            team: *team,
+            groups: u16::from_be_bytes([*high, *low]),
+        }),
         [b'U', a, b, c, d, e, f, g, h, ..] => {
-            Ok(Record::Seed { seed: u64::from_be_bytes([*a, *b, *c, *d, *e, *f, *g, *h]) })
+            Ok(Record::Seed {
+                seed: u64::from_be_bytes([*a, *b, *c, *d, *e, *f, *g, *h]),
+            })
         }
-        [b'S', pot, _, _, _, _, _, _, _, _, _, _, _, _, _, _, _, _, ..] => {
+        [
+            b'S',
+            pot,
+            _,
+            _,
+            _,
+            _,
+            _,
+            _,
+            _,
+            _,
+            _,
+            _,
+            _,
+            _,
+            _,
+            _,
+            _,
+            _,
+            ..
+        ] => {
             let mut order = [0; 16];
             order.copy_from_slice(&rest[2..18]);
             Ok(Record::Script { pot: *pot, order })
         }
         [b'Z', ..] => Ok(Record::End),
         [b'G' | b'T' | b'X' | b'C' | b'B' | b'U' | b'S', ..] | [] => {
-            Err(SheetFault { refusal: SheetRefusal::CutShort, place })
+            Err(SheetFault {
+                refusal: SheetRefusal::CutShort,
+                place,
+            })
         }
-        [_, ..] => Err(SheetFault { refusal: SheetRefusal::UnknownKind, place }),
+        [_, ..] => Err(SheetFault {
+            refusal: SheetRefusal::UnknownKind,
+            place,
+        }),
     }
 }

@@ -1,6 +1,6 @@
 // The records of a sheet: what the bytes at its front say, before the shape is asked.
-mod refusal;
 mod item;
+mod refusal;
 
 pub use item::Record;
 pub use item::record_at;

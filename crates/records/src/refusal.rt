@@ -47,6 +47,10 @@ pub impl From<SheetFault> for Fault as SheetFaultRaised {
     ghost converts = { λ fault up. up ≡ raised fault };
 
     fn from(fault: SheetFault) -> Fault {
-        Fault { layer: Layer::Reading, number: fault.refusal.number(), place: fault.place }
+        Fault {
+            layer: Layer::Reading,
+            number: fault.refusal.number(),
+            place: fault.place,
+        }
     }
 }

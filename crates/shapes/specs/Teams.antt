@@ -16,9 +16,13 @@ sized groups pots = (leb 1 groups && leb groups 16) && (leb 1 pots && leb pots 6
 abbrev pub shapeOf : ℕ → ℕ → Option Shape
 shapeOf groups pots = cond (sized groups pots) (Some (record { groups = groups; pots = pots })) None
 
--- a team's number is 16 times its pot, and its ball; a pot has as many balls as there are groups
+-- how many balls a pot has: one for each group, and none past the last pot
+abbrev pub ballsOf : Shape → ℕ → ℕ
+ballsOf s pot = cond (ltb pot (s .pots)) (s .groups) 0
+
+-- a team's number is 16 times its pot, and its ball; balls count from 0
 abbrev pub HasTeam : Shape → ℕ → Type 0
-HasTeam s n = (n < 96) × (n / 16 < s .pots) × (n % 16 < s .groups)
+HasTeam s n = (n < 96) × (n % 16 < ballsOf s (n / 16))
 
 abbrev pub hasTeam : Shape → ℕ → Bool
-hasTeam s n = ltb n 96 && (ltb (n / 16) (s .pots) && ltb (n % 16) (s .groups))
+hasTeam s n = ltb n 96 && ltb (n % 16) (ballsOf s (n / 16))

@@ -1,6 +1,6 @@
 // The shape of a draw: how many groups and pots it has, and which teams.
 ghost use mathlib.Core.Path.{_≡_};
-ghost use Rattle.shapes.specs.Teams.{hasTeam, shapeOf};
+ghost use Rattle.shapes.specs.Teams.{ballsOf, hasTeam, shapeOf};
 
 // 1 to 16 groups and 1 to 6 pots, where it was made by `new`.
 #[derive(Clone, Copy, PartialEq, Eq, Debug)]
@@ -20,10 +20,17 @@ impl Shape {
         }
     }
 
+    // How many balls a pot has: one for each group, and none past the last pot.
+    pub fn balls(self, pot: u8) -> u8
+        ensures { λ r. ⌜ r ≡ ballsOf self pot ⌝ }
+    {
+        if pot < self.pots { self.groups } else { 0 }
+    }
+
     // Whether the shape has a team of this number: 16 times its pot, and its ball.
     pub fn has_team(self, team: u8) -> bool
         ensures { λ r. ⌜ r ≡ hasTeam self team ⌝ }
     {
-        team < 96 && team / 16 < self.pots && team % 16 < self.groups
+        team < 96 && team % 16 < self.balls(team / 16)
     }
 }

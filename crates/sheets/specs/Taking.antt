@@ -11,7 +11,7 @@ use Rattle.std.specs.declared.option.Option.the-variants.{Some, None}
 use Rattle.std.specs.declared.result.Result.{Result}
 use Rattle.std.specs.declared.result.Result.the-variants.{Ok, Err}
 use Rattle.shapes.specs.declared.Shape.{Shape}
-use Rattle.shapes.specs.Teams.{hasTeam}
+use Rattle.shapes.specs.Teams.{ballsOf, hasTeam}
 use Rattle.records.specs.declared.refusal.SheetFault.{SheetFault}
 use Rattle.records.specs.declared.refusal.SheetRefusal.the-variants.{ShapeMisplaced, OutOfRange, Repeated, TooManyPairs, NotAnOrder}
 use Rattle.records.specs.declared.item.Record.{Record}
@@ -91,7 +91,7 @@ isShape End = false
 -- each field is in range
 abbrev pub fits : Shape → Record → Bool
 fits sh (ShapeOf g p) = true
-fits sh (Team pot ball a c) = (leb pot 5 && (leb ball 15 && leb a 64)) && ((ltb pot (sh .pots) && ltb ball (sh .groups)) && letters c)
+fits sh (Team pot ball a c) = (leb pot 5 && (leb ball 15 && leb a 64)) && (ltb ball (ballsOf sh pot) && letters c)
 fits sh (Pair a b) = not (eqb a b) && (hasTeam sh a && hasTeam sh b)
 fits sh (Cap a m) = (leb 1 a && leb a 64) && (leb 1 m && leb m 6)
 fits sh (Bars n g) = hasTeam sh n && barsFit g (sh .groups)
@@ -121,7 +121,7 @@ crowded s (Seed x) = false
 crowded s (Script pot o) = false
 crowded s End = false
 
--- a script is an order of its pot, which has a ball for each group
+-- a script is an order of its pot
 abbrev pub ordered : Shape → Record → Bool
 ordered sh (ShapeOf g p) = true
 ordered sh (Team pot ball a c) = true
@@ -129,7 +129,7 @@ ordered sh (Pair a b) = true
 ordered sh (Cap a m) = true
 ordered sh (Bars n g) = true
 ordered sh (Seed x) = true
-ordered sh (Script pot o) = isOrder (sh .groups) o
+ordered sh (Script pot o) = isOrder (ballsOf sh pot) o
 ordered sh End = true
 
 -- the answer to a record after the first, at a place: its tests in their order
@@ -149,7 +149,7 @@ once o at = cond (isSome o) (Err (fault Repeated at)) (Ok tt)
 abbrev pub onceOrdered : Sheet → ℕ → List ℕ → ℕ → Result (Unit {0}) SheetFault
 onceOrdered s pot o at =
     cond (isSome (getD (s .scripts) pot None)) (Err (fault Repeated at))
-    (cond (isOrder (s .shape .groups) o) (Ok tt) (Err (fault NotAnOrder at)))
+    (cond (isOrder (ballsOf (s .shape) pot) o) (Ok tt) (Err (fault NotAnOrder at)))
 
 -- the sheet record with one thing more
 abbrev pub withTeam : Sheet → ℕ → Entrant → Sheet

@@ -37,18 +37,30 @@ fn bars_fit(bars: u16, groups: u8) -> bool
 fn entrant_of(association: u8, code: [u8; 3]) -> Entrant
     ensures { λ r. ⌜ r ≡ entrant association code ⌝ }
 {
-    let association = if association == 0 { None } else { Some(association) };
+    let association = if association == 0 {
+        None
+    } else {
+        Some(association)
+    };
     Entrant { association, code }
 }
 
 // Fills a slot that may be filled once.
-fn fill_once<T: Copy>(slots: &mut [Option<T>], slot: usize, value: T, place: usize) -> Result<(), SheetFault>
+fn fill_once<T: Copy>(
+    slots: &mut [Option<T>],
+    slot: usize,
+    value: T,
+    place: usize,
+) -> Result<(), SheetFault>
     requires { ⌜ slot < length (now slots) ⌝ }
     ensures answer { λ r. ⌜ r ≡ once (getD (now (slots .entry)) slot None) place ⌝ }
     ensures after { λ r. ⌜ now (slots .exit) ≡ cond (isOk r) (set (now (slots .entry)) slot (Some value)) (now (slots .entry)) ⌝ }
 {
     if slots[slot].is_some() {
-        return Err(SheetFault { refusal: SheetRefusal::Repeated, place });
+        return Err(SheetFault {
+            refusal: SheetRefusal::Repeated,
+            place,
+        });
     }
     slots[slot] = Some(value);
     Ok(())
@@ -62,7 +74,10 @@ impl Sheet {
     {
         let slot = self.listed;
         if slot >= 64 {
-            return Err(SheetFault { refusal: SheetRefusal::TooManyPairs, place });
+            return Err(SheetFault {
+                refusal: SheetRefusal::TooManyPairs,
+                place,
+            });
         }
         self.pairs[slot] = (first, second);
         self.listed = slot + 1;
@@ -74,7 +89,10 @@ impl Sheet {
         ensures after { λ r. ⌜ now (self .exit) ≡ cond (isOk r) (withSeed (now (self .entry)) seed) (now (self .entry)) ⌝ }
     {
         if self.seed.is_some() {
-            return Err(SheetFault { refusal: SheetRefusal::Repeated, place });
+            return Err(SheetFault {
+                refusal: SheetRefusal::Repeated,
+                place,
+            });
         }
         self.seed = Some(seed);
         Ok(())
@@ -88,10 +106,16 @@ impl Sheet {
     {
         let slot = pot as usize;
         if self.scripts[slot].is_some() {
-            return Err(SheetFault { refusal: SheetRefusal::Repeated, place });
+            return Err(SheetFault {
+                refusal: SheetRefusal::Repeated,
+                place,
+            });
         }
-        if !is_order(&order, self.shape.groups) {
-            return Err(SheetFault { refusal: SheetRefusal::NotAnOrder, place });
+        if !is_order(&order, self.shape.balls(pot)) {
+            return Err(SheetFault {
+                refusal: SheetRefusal::NotAnOrder,
+                place,
+            });
         }
         self.scripts[slot] = Some(order);
         Ok(())
@@ -104,29 +128,49 @@ impl Sheet {
     {
         let shape = self.shape;
         match item {
-            Record::Shape { .. } => Err(SheetFault { refusal: SheetRefusal::ShapeMisplaced, place }),
-            Record::Team { pot: pot @ 0..=5, ball: ball @ 0..=15, association: association @ 0..=64, code }
-                if pot < shape.pots && ball < shape.groups && capitals(code) =>
-            {
-                fill_once(&mut self.teams, (16 * pot + ball) as usize, entrant_of(association, code), place)
+            Record::Shape { .. } => Err(SheetFault {
+                refusal: SheetRefusal::ShapeMisplaced,
+                place,
+            }),
+            Record::Team {
+                pot: pot @ 0..=5,
+                ball: ball @ 0..=15,
+                association: association @ 0..=64,
+                code,
+            } if ball < shape.balls(pot) && capitals(code) => {
+                fill_once(
+                    &mut self.teams,
+                    (16 * pot + ball) as usize,
+                    entrant_of(association, code),
+                    place,
+                )
             }
-            Record::Pair { first, second } if first != second && shape.has_team(first) && shape.has_team(second) => {
+            Record::Pair { first, second }
+                if first != second && shape.has_team(first) && shape.has_team(second) => {
                 self.put_pair(first, second, place)
             }
-            Record::Cap { association: association @ 1..=64, most: most @ 1..=6 } => {
-                fill_once(&mut self.caps, association as usize, most, place)
-            }
-            Record::Bars { team, groups } if shape.has_team(team) && bars_fit(groups, shape.groups) => {
+            Record::Cap {
+                association: association @ 1..=64,
+                most: most @ 1..=6,
+            } => { fill_once(&mut self.caps, association as usize, most, place) }
+            Record::Bars { team, groups }
+                if shape.has_team(team) && bars_fit(groups, shape.groups) => {
                 fill_once(&mut self.bars, team as usize, groups, place)
             }
             Record::Seed { seed } => self.put_seed(seed, place),
-            Record::Script { pot: pot @ 0..=5, order } if pot < shape.pots => self.put_script(pot, order, place),
+            Record::Script {
+                pot: pot @ 0..=5,
+                order,
+            } if pot < shape.pots => self.put_script(pot, order, place),
             Record::End => Ok(()),
             Record::Team { .. }
             | Record::Pair { .. }
             | Record::Cap { .. }
             | Record::Bars { .. }
-            | Record::Script { .. } => Err(SheetFault { refusal: SheetRefusal::OutOfRange, place }),
+            | Record::Script { .. } => Err(SheetFault {
+                refusal: SheetRefusal::OutOfRange,
+                place,
+            }),
         }
     }
 }

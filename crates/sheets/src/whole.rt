@@ -43,7 +43,11 @@ impl Sheet {
     fn has_source(&self) -> bool
         ensures { λ r. ⌜ r ≡ hasSource (now (self .entry)) ⌝ }
     {
-        if self.seed.is_some() { !self.any_script() } else { self.all_scripts() }
+        if self.seed.is_some() {
+            !self.any_script()
+        } else {
+            self.all_scripts()
+        }
     }
 
     // Whether nothing is missing: a T for each team of the shape, and one source of balls.
