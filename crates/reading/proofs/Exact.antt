@@ -20,7 +20,8 @@ use Rattle.records.specs.declared.refusal.SheetRefusal.{SheetRefusal}
 use Rattle.records.specs.declared.refusal.SheetRefusal.the-variants.{UnknownKind, CutShort, ShapeMisplaced, OutOfRange, Repeated, TooManyPairs, NotAnOrder, BytesAfterEnd, Incomplete}
 use Rattle.records.specs.declared.item.Record.{Record}
 use Rattle.records.specs.declared.item.Record.the-variants.{Shape as ShapeOf, Team, Pair, Cap, Bars, Seed, Script, End}
-use Rattle.records.specs.Forms.{Form, sizeOf, fault, decoded}
+use Rattle.records.specs.Forms.{Form, sizeOf, decoded}
+use Rattle.records.specs.Refusals.{fault}
 use Rattle.sheets.specs.declared.sheet.Sheet.{Sheet}
 use Rattle.sheets.specs.Taking.{blank, verdict, taken, isWhole}
 use Rattle.reading.specs.Reading.{bind, begun, shaped, opened, closed, atEnd, going, reading, answered, filled}

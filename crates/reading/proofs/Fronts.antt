@@ -17,7 +17,8 @@ use Rattle.records.specs.declared.refusal.SheetFault.{SheetFault}
 use Rattle.records.specs.declared.refusal.SheetRefusal.the-variants.{UnknownKind, CutShort}
 use Rattle.records.specs.declared.item.Record.{Record}
 use Rattle.records.specs.declared.item.Record.the-variants.{Shape as ShapeOf, Team, Pair, Cap, Bars, Seed, Script, End}
-use Rattle.records.specs.Forms.{Form, bodyOf, sizeOf, fault, eight, decoded}
+use Rattle.records.specs.Forms.{Form, bodyOf, sizeOf, eight, decoded}
+use Rattle.records.specs.Refusals.{fault}
 use Rattle.reading.specs.Format.{Front, Unknown, Short}
 use Rattle.reading.proofs.Going.{decoded-size}
 

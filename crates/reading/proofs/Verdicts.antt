@@ -16,7 +16,7 @@ use Rattle.records.specs.declared.refusal.SheetRefusal.{SheetRefusal}
 use Rattle.records.specs.declared.refusal.SheetRefusal.the-variants.{UnknownKind, CutShort, ShapeMisplaced, OutOfRange, Repeated, TooManyPairs, NotAnOrder, BytesAfterEnd, Incomplete}
 use Rattle.records.specs.declared.item.Record.{Record}
 use Rattle.records.specs.declared.item.Record.the-variants.{End}
-use Rattle.records.specs.Forms.{fault}
+use Rattle.records.specs.Refusals.{fault}
 use Rattle.sheets.specs.Taking.{isShape, fits, repeated, crowded, ordered, verdict}
 use Rattle.reading.specs.Format.{Front, said, Fits, Fresh, Room, Ordered, IsShape, Inner, Next, Fails}
 use Rattle.reading.proofs.Judging.{shape-said, decides-shape, decides-fits, decides-fresh, decides-room, decides-ordered}

@@ -14,7 +14,8 @@ use Rattle.records.specs.declared.refusal.SheetFault.{SheetFault}
 use Rattle.records.specs.declared.refusal.SheetRefusal.the-variants.{CutShort, ShapeMisplaced, OutOfRange, BytesAfterEnd, Incomplete}
 use Rattle.records.specs.declared.item.Record.{Record}
 use Rattle.records.specs.declared.item.Record.the-variants.{Shape as ShapeOf, Team, Pair, Cap, Bars, Seed, Script, End}
-use Rattle.records.specs.Forms.{decoded, sizeOf, fault}
+use Rattle.records.specs.Forms.{decoded, sizeOf}
+use Rattle.records.specs.Refusals.{fault}
 use Rattle.sheets.specs.declared.sheet.Sheet.{Sheet}
 use Rattle.sheets.specs.Taking.{blank, verdict, taken, isWhole}
 

@@ -16,16 +16,10 @@ fn begin(bytes: &[u8]) -> Result<Sheet, SheetFault>
     ensures { λ r. ⌜ r ≡ opened (now (bytes .entry)) ⌝ }
 {
     let Record::Shape { groups, pots } = record_at(bytes, 0)? else {
-        return Err(SheetFault {
-            refusal: SheetRefusal::ShapeMisplaced,
-            place: 0,
-        });
+        return Err(SheetRefusal::ShapeMisplaced.at(0));
     };
     let Some(shape) = Shape::new(groups, pots) else {
-        return Err(SheetFault {
-            refusal: SheetRefusal::OutOfRange,
-            place: 0,
-        });
+        return Err(SheetRefusal::OutOfRange.at(0));
     };
     Ok(Sheet::new(shape))
 }
@@ -36,16 +30,10 @@ fn close(sheet: &Sheet, place: usize, len: usize) -> Result<(), SheetFault>
     ensures { λ r. ⌜ r ≡ closed (now (sheet .entry)) place len ⌝ }
 {
     if place + 1 < len {
-        return Err(SheetFault {
-            refusal: SheetRefusal::BytesAfterEnd,
-            place: place + 1,
-        });
+        return Err(SheetRefusal::BytesAfterEnd.at(place + 1));
     }
     if !sheet.is_whole() {
-        return Err(SheetFault {
-            refusal: SheetRefusal::Incomplete,
-            place,
-        });
+        return Err(SheetRefusal::Incomplete.at(place));
     }
     Ok(())
 }

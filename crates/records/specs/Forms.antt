@@ -13,6 +13,7 @@ use Rattle.std.specs.declared.result.Result.the-variants.{Ok, Err}
 use Rattle.records.specs.declared.refusal.SheetFault.{SheetFault}
 use Rattle.records.specs.declared.refusal.SheetRefusal.{SheetRefusal}
 use Rattle.records.specs.declared.refusal.SheetRefusal.the-variants.{UnknownKind, CutShort}
+use Rattle.records.specs.Refusals.{fault}
 use Rattle.records.specs.declared.item.Record.{Record}
 use Rattle.records.specs.declared.item.Record.the-variants.{Shape, Team, Pair, Cap, Bars, Seed, Script, End}
 
@@ -60,9 +61,6 @@ sizeOf (Bars n g) = 4
 sizeOf (Seed s) = 9
 sizeOf (Script pot o) = 18
 sizeOf End = 1
-
-abbrev pub fault : SheetRefusal → ℕ → SheetFault
-fault why at = record { refusal = why; place = at }
 
 -- a record of n bytes, where so many are there
 abbrev pub whole : List ℕ → ℕ → ℕ → Record → Result Record SheetFault

@@ -17,6 +17,9 @@ numberOf NotAnOrder = 7
 numberOf BytesAfterEnd = 8
 numberOf Incomplete = 9
 
+abbrev pub fault : SheetRefusal → ℕ → SheetFault
+fault why at = record { refusal = why; place = at }
+
 -- a fault of a sheet, as the layers above know it
 abbrev pub raised : SheetFault → Fault
 raised f = record { layer = Reading; number = numberOf (f .refusal); place = f .place }

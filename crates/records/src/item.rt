@@ -89,41 +89,16 @@ pub fn record_at(rest: &[u8], place: usize) -> Result<Record, SheetFault>
                 seed: u64::from_be_bytes([*a, *b, *c, *d, *e, *f, *g, *h]),
             })
         }
-        [
-            b'S',
-            pot,
-            _,
-            _,
-            _,
-            _,
-            _,
-            _,
-            _,
-            _,
-            _,
-            _,
-            _,
-            _,
-            _,
-            _,
-            _,
-            _,
-            ..
-        ] => {
+        [b'S', pot, ..] if rest.len() >= 18 => {
             let mut order = [0; 16];
             order.copy_from_slice(&rest[2..18]);
             Ok(Record::Script { pot: *pot, order })
         }
         [b'Z', ..] => Ok(Record::End),
-        [b'G' | b'T' | b'X' | b'C' | b'B' | b'U' | b'S', ..] | [] => {
-            Err(SheetFault {
-                refusal: SheetRefusal::CutShort,
-                place,
-            })
+        [] | [b'G' | b'T' | b'X' | b'C' | b'B' | b'U' | b'S', ..] => {
+            let refusal = SheetRefusal::CutShort;
+            Err(SheetFault { refusal, place })
         }
-        [_, ..] => Err(SheetFault {
-            refusal: SheetRefusal::UnknownKind,
-            place,
-        }),
+        [_, ..] => Err(SheetRefusal::UnknownKind.at(place)),
     }
 }

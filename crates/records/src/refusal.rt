@@ -1,6 +1,6 @@
 // Why a sheet is refused, and where.
 ghost use mathlib.Core.Path.{_≡_};
-ghost use Rattle.records.specs.Refusals.{numberOf, raised};
+ghost use Rattle.records.specs.Refusals.{fault, numberOf, raised};
 use faults::Fault;
 use faults::Layer;
 
@@ -31,6 +31,16 @@ impl SheetRefusal {
             SheetRefusal::NotAnOrder => 7,
             SheetRefusal::BytesAfterEnd => 8,
             SheetRefusal::Incomplete => 9,
+        }
+    }
+
+    // The fault of this refusal at a place.
+    pub fn at(self, place: usize) -> SheetFault
+        ensures { λ r. ⌜ r ≡ fault self place ⌝ }
+    {
+        SheetFault {
+            refusal: self,
+            place,
         }
     }
 }

@@ -16,7 +16,7 @@ use Rattle.records.specs.declared.refusal.SheetFault.{SheetFault}
 use Rattle.records.specs.declared.refusal.SheetRefusal.the-variants.{ShapeMisplaced, OutOfRange, Repeated, TooManyPairs, NotAnOrder}
 use Rattle.records.specs.declared.item.Record.{Record}
 use Rattle.records.specs.declared.item.Record.the-variants.{Shape as ShapeOf, Team, Pair, Cap, Bars, Seed, Script, End}
-use Rattle.records.specs.Forms.{fault}
+use Rattle.records.specs.Refusals.{fault}
 use Rattle.sheets.specs.declared.sheet.Sheet.{Sheet}
 use Rattle.sheets.specs.declared.sheet.Entrant.{Entrant}
 use Rattle.sheets.specs.Below.{allBelow, anyBelow}

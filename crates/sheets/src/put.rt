@@ -3,7 +3,7 @@ ghost use mathlib.Core.Path.{_≡_};
 ghost use mathlib.Core.Bool.{cond};
 ghost use Prim.Native.Nat.{_<_, _≤_};
 ghost use Rattle.std.specs.Results.{isOk};
-ghost use Rattle.records.specs.Forms.{fault};
+ghost use Rattle.records.specs.Refusals.{fault};
 ghost use lib.Dec.{leb};
 ghost use lib.ListN.{getD, length, set};
 ghost use Rattle.std.specs.declared.option.Option.the-variants.{None, Some};
@@ -57,10 +57,7 @@ fn fill_once<T: Copy>(
     ensures after { λ r. ⌜ now (slots .exit) ≡ cond (isOk r) (set (now (slots .entry)) slot (Some value)) (now (slots .entry)) ⌝ }
 {
     if slots[slot].is_some() {
-        return Err(SheetFault {
-            refusal: SheetRefusal::Repeated,
-            place,
-        });
+        return Err(SheetRefusal::Repeated.at(place));
     }
     slots[slot] = Some(value);
     Ok(())
@@ -74,10 +71,7 @@ impl Sheet {
     {
         let slot = self.listed;
         if slot >= 64 {
-            return Err(SheetFault {
-                refusal: SheetRefusal::TooManyPairs,
-                place,
-            });
+            return Err(SheetRefusal::TooManyPairs.at(place));
         }
         self.pairs[slot] = (first, second);
         self.listed = slot + 1;
@@ -89,10 +83,7 @@ impl Sheet {
         ensures after { λ r. ⌜ now (self .exit) ≡ cond (isOk r) (withSeed (now (self .entry)) seed) (now (self .entry)) ⌝ }
     {
         if self.seed.is_some() {
-            return Err(SheetFault {
-                refusal: SheetRefusal::Repeated,
-                place,
-            });
+            return Err(SheetRefusal::Repeated.at(place));
         }
         self.seed = Some(seed);
         Ok(())
@@ -106,16 +97,10 @@ impl Sheet {
     {
         let slot = pot as usize;
         if self.scripts[slot].is_some() {
-            return Err(SheetFault {
-                refusal: SheetRefusal::Repeated,
-                place,
-            });
+            return Err(SheetRefusal::Repeated.at(place));
         }
         if !is_order(&order, self.shape.balls(pot)) {
-            return Err(SheetFault {
-                refusal: SheetRefusal::NotAnOrder,
-                place,
-            });
+            return Err(SheetRefusal::NotAnOrder.at(place));
         }
         self.scripts[slot] = Some(order);
         Ok(())
@@ -128,10 +113,7 @@ impl Sheet {
     {
         let shape = self.shape;
         match item {
-            Record::Shape { .. } => Err(SheetFault {
-                refusal: SheetRefusal::ShapeMisplaced,
-                place,
-            }),
+            Record::Shape { .. } => Err(SheetRefusal::ShapeMisplaced.at(place)),
             Record::Team {
                 pot: pot @ 0..=5,
                 ball: ball @ 0..=15,
@@ -167,10 +149,10 @@ impl Sheet {
             | Record::Pair { .. }
             | Record::Cap { .. }
             | Record::Bars { .. }
-            | Record::Script { .. } => Err(SheetFault {
-                refusal: SheetRefusal::OutOfRange,
-                place,
-            }),
+            | Record::Script { .. } => {
+                let refusal = SheetRefusal::OutOfRange;
+                Err(SheetFault { refusal, place })
+            }
         }
     }
 }
