@@ -24,12 +24,12 @@ use Rattle.records.specs.Forms.{Form, sizeOf, decoded}
 use Rattle.records.specs.Refusals.{fault}
 use Rattle.sheets.specs.declared.sheet.Sheet.{Sheet}
 use Rattle.sheets.specs.Taking.{blank, verdict, taken, isWhole}
-use Rattle.reading.specs.Reading.{bind, begun, shaped, opened, closed, atEnd, going, reading, answered, filled}
-use Rattle.reading.specs.Format.{Spelt, Front, Unknown, Short, said, IsShape, Inner, Next, Kept, Whole, Begun, Accepted, FailsFirst, Fails, FailsLater, Refused, Exact}
+use Rattle.reading.specs.Reading.{bind, started, shaped, opened, closed, atEnd, going, reading, answered, filled}
+use Rattle.reading.specs.Format.{Spelt, Front, Unknown, Short, said, IsShape, Inner, Next, Kept, Whole, Begun, Accepted, FailsFirst, Fails, beyond, FailsLater, Refused, Exact}
 use Rattle.reading.proofs.Going.{turn, not-end, size-some, Sofar, start, start-err, record-err, put-err, put-more, ended}
 use Rattle.reading.proofs.Fronts.{form-of, front-of, form-size, reads, end-at, unknown, short, no-record}
 use Rattle.reading.proofs.Saying.{said-none, said-more}
-use Rattle.reading.proofs.Judging.{decides-whole}
+use Rattle.reading.proofs.Judging.{code-said, association-said, decides-whole}
 use Rattle.reading.proofs.Verdicts.{Says, judged, next-taken, shape-refused, range-refused, again-refused, room-refused, order-refused}
 
 -- what an outcome of the reading says of the bytes
@@ -71,8 +71,8 @@ module _ (bs : List ℕ) (sh : Shape) where
   whole-length rs at rest b = ap length (b .bytes) ∙ (let l = length-append (b .body) rest in omega (arith, b .at))
 
   -- the records so far are in order, and the rest fails
-  later : (rs : List Record) (at : ℕ) (rest : List ℕ) (f : SheetFault) (on : ℕ) → Begun bs sh rs at rest → Fails (f .refusal) sh rs rest on → f .place ≡ at + on → Refused bs f
-  later rs at rest f on b x p = inr (record { shape = sh; records = rs; place = at; rest = rest; on = on; begun = b; fails = x; at = p })
+  later : (rs : List Record) (at : ℕ) (rest : List ℕ) (f : SheetFault) → Begun bs sh rs at rest → Fails (f .refusal) sh rs rest → f .place ≡ at + beyond (f .refusal) → Refused bs f
+  later rs at rest f b x p = inr (record { shape = sh; records = rs; place = at; rest = rest; begun = b; fails = x; at = p })
 
   ends-here : (rest : List ℕ) → Front End rest → length rest ≤ 1 → rest ≡ 90 ∷ []
   ends-here rest w l =
@@ -90,8 +90,8 @@ module _ (bs : List ℕ) (sh : Shape) where
   -- at the end record
   by-whole : (rs : List Record) (at : ℕ) (rest : List ℕ) → Begun bs sh rs at rest → rest ≡ 90 ∷ [] → (b : Bool) → Decides b (Whole sh rs)
       → Out bs (bind (cond b (Ok tt) (Err (fault Incomplete at))) (λ (_ : Unit {0}). Ok (said sh rs)))
-  by-whole rs at rest g e true d = record { shape = sh; records = rs; place = at; begun = subst (Begun bs sh rs at) e g; whole = d .0 refl; says = refl }
-  by-whole rs at rest g e false d = later rs at rest (fault Incomplete at) 0 g (e, (λ w. true≢false (sym (d .1 w))), refl) (omega arith)
+  by-whole rs at rest g e true d = record { shape = sh; records = rs; place = at; begun = subst (Begun bs sh rs at) e g; whole = d .0 refl; says = refl; codes = code-said sh rs; associations = association-said sh rs }
+  by-whole rs at rest g e false d = later rs at rest (fault Incomplete at) g (e, λ w. true≢false (sym (d .1 w))) (omega arith)
 
   at-end : (rs : List Record) (at : ℕ) (rest : List ℕ) → Begun bs sh rs at rest → Front End rest → Out bs (bind (closed (said sh rs) at (length bs)) (λ _. Ok (said sh rs)))
   at-end rs at rest g w =
@@ -99,7 +99,7 @@ module _ (bs : List ℕ) (sh : Shape) where
       let go : Result (Unit {0}) SheetFault → Type 0 = λ o. Out bs (bind o (λ _. Ok (said sh rs))) in
       ⊎-elim
       (λ k. subst go (sym (closed-early (said sh rs) at (length bs) (omega arith)))
-      (later rs at rest (fault BytesAfterEnd (at + 1)) 1 g (ends-early rest w k, refl) refl))
+      (later rs at rest (fault BytesAfterEnd (at + 1)) g (ends-early rest w k) refl))
       (λ k. subst go (sym (closed-late (said sh rs) at (length bs) (omega arith)))
       (by-whole rs at rest g (ends-here rest w k) (isWhole (said sh rs)) (decides-whole sh rs (g .sized))))
       (cases-lt 1 (length rest))
@@ -114,13 +114,13 @@ module _ (bs : List ℕ) (sh : Shape) where
         let b = more rs at rest r (take (sizeOf r) rest) (drop (sizeOf r) rest) g (form-of rest at r d) (sym (take-append-drop (sizeOf r) rest)) x in
         let k : length (drop (sizeOf r) rest) ≤ n = simp length-drop (omega (arith, size-some r)) in
         subst (λ s. Out bs (going n s (drop (sizeOf r) rest) (at + sizeOf r) (length bs))) (sym e) (go (r ∷ rs) (at + sizeOf r) (drop (sizeOf r) rest) b k)
-    by-verdict r d (Err f) x = later rs at rest f 0 g (x .0) (omega (arith, x .1))
+    by-verdict r d (Err f) x = later rs at rest f g (x .0) (x .1)
 
     by-record : (d : Result Record SheetFault) → decoded rest at ≡ d → Out bs (turn n (said sh rs) rest at (length bs) d)
     by-record (Err f) d =
         ⊎-elim
-        (λ u. subst (Refused bs) (sym (u .1)) (later rs at rest (fault UnknownKind at) 0 g (u .0, refl) (omega arith)))
-        (λ u. subst (Refused bs) (sym (u .1)) (later rs at rest (fault CutShort at) 0 g (u .0, refl) (omega arith)))
+        (λ u. subst (Refused bs) (sym (u .1)) (later rs at rest (fault UnknownKind at) g (u .0) (omega arith)))
+        (λ u. subst (Refused bs) (sym (u .1)) (later rs at rest (fault CutShort at) g (u .0) (omega arith)))
         (no-record rest at f d)
     by-record (Ok r) d =
         ⊎-elim
@@ -134,7 +134,7 @@ module _ (bs : List ℕ) (sh : Shape) where
   -- the reading from a place on, with records in order before it
   pub goes : (n : ℕ) (rs : List Record) (at : ℕ) (rest : List ℕ) → Begun bs sh rs at rest → length rest ≤ n → Out bs (going n (said sh rs) rest at (length bs))
   unfolding going
-  goes zero rs at rest g l = later rs at rest (fault CutShort at) 0 g (inl (nil-from-length rest (omega arith)), refl) (omega arith)
+  goes zero rs at rest g l = later rs at rest (fault CutShort at) g (inl (nil-from-length rest (omega arith))) (omega arith)
   goes (suc n) rs at rest g l = by-record n rs at rest g l (λ qs to after b k. goes n qs to after b k) (decoded rest at) refl
 
 -- the first record
@@ -151,7 +151,7 @@ abbrev rest-of : List ℕ → Result Sheet SheetFault → Result Sheet SheetFaul
 rest-of bs o = bind o (λ s. going (length bs) s (drop 3 bs) 3 (length bs))
 
 first-shape : (bs : List ℕ) (g p : ℕ) → decoded bs 0 ≡ Ok (ShapeOf g p) → (b : Bool) → sized g p ≡ b
-    → Out bs (rest-of bs (begun (cond b (Some (shape-of g p)) None)))
+    → Out bs (rest-of bs (started (cond b (Some (shape-of g p)) None)))
 first-shape bs g p d true e =
     let f : take 3 bs ≡ 71 ∷ g ∷ p ∷ [] = form-of bs 0 (ShapeOf g p) d in
     let cut : bs ≡ 71 ∷ g ∷ p ∷ drop 3 bs = sym (take-append-drop 3 bs) ∙ ap (λ l. l ++ drop 3 bs) f in
@@ -199,7 +199,7 @@ opens : (bs : List ℕ) (sh : Shape) (rest : List ℕ) → bs ≡ 71 ∷ sh .gro
 opens bs sh rest e z =
     ap (λ l. bind (decoded l 0) shaped) e
     ∙ ap (λ d. bind d shaped) (reads (ShapeOf (sh .groups) (sh .pots)) (71 ∷ sh .groups ∷ sh .pots ∷ []) rest 0 refl)
-    ∙ ap begun (shape-begun sh z)
+    ∙ ap started (shape-begun sh z)
 
 -- the reading comes to the end of records in order
 reach : (bs : List ℕ) (sh : Shape) (rs : List Record) (at : ℕ) (rest : List ℕ) → Begun bs sh rs at rest → Sofar bs (said sh rs) at
@@ -264,39 +264,30 @@ module _ (bs : List ℕ) (sh : Shape) (rs : List Record) (at : ℕ) (rest : List
   not-shape-end : (r : Record) → IsShape r → r ≡ End → ⊥
   not-shape-end r w e = let k = w .2 in let z : _≡_ {A = ℕ} 0 1 = cc in omega arith
 
-  moved : (why : SheetRefusal) (on to : ℕ) → on ≡ to → reading bs ≡ Err (fault why (at + to)) → reading bs ≡ Err (fault why (at + on))
-  moved why on to e h = h ∙ ap (λ n. Err (fault why (at + n))) (sym e)
+  still : (why : SheetRefusal) → reading bs ≡ Err (fault why at) → reading bs ≡ Err (fault why (at + 0))
+  still why h = h ∙ ap (λ n. Err (fault why n)) (let k : at ≡ at + 0 = omega arith in k)
 
-  still : (why : SheetRefusal) (on : ℕ) → on ≡ 0 → reading bs ≡ Err (fault why at) → reading bs ≡ Err (fault why (at + on))
-  still why on e h = h ∙ ap (λ n. Err (fault why n)) (let k : at ≡ at + on = omega arith in k)
-
-  pub fails-read : (why : SheetRefusal) (on : ℕ) → Fails why sh rs rest on → reading bs ≡ Err (fault why (at + on))
-  fails-read UnknownKind on x = still UnknownKind on (x .1) (unread (fault UnknownKind at) (unknown rest at (x .0)))
-  fails-read CutShort on x = still CutShort on (x .1) (unread (fault CutShort at) (short rest at (x .0)))
-  fails-read ShapeMisplaced on x =
-      let q = x .0 in
-      still ShapeMisplaced on (x .1) (unput (q .0) (q .1) (not-shape-end (q .0) (q .2)) (fault ShapeMisplaced at) (shape-refused sh rs (q .0) at (b .sized) (q .2)))
-  fails-read OutOfRange on x =
-      let q = x .0 in
-      still OutOfRange on (x .1) (unput (q .0) (q .1) (q .2 .1) (fault OutOfRange at) (range-refused sh rs (q .0) at (b .sized) (q .2 .0) (q .3)))
-  fails-read Repeated on x =
-      let q = x .0 in
-      still Repeated on (x .1) (unput (q .0) (q .1) (q .2 .1) (fault Repeated at) (again-refused sh rs (q .0) at (b .sized) (q .2 .0) (q .3) (q .4)))
-  fails-read TooManyPairs on x =
-      let q = x .0 in
-      still TooManyPairs on (x .1) (unput (q .0) (q .1) (q .2 .1) (fault TooManyPairs at) (room-refused sh rs (q .0) at (b .sized) (q .2 .0) (q .3) (q .4) (q .5)))
-  fails-read NotAnOrder on x =
-      let q = x .0 in
-      still NotAnOrder on (x .1) (unput (q .0) (q .1) (q .2 .1) (fault NotAnOrder at) (order-refused sh rs (q .0) at (b .sized) (q .2 .0) (q .3) (q .4) (q .5) (q .6)))
-  fails-read BytesAfterEnd on x =
-      let q = x .0 in
+  pub fails-read : (why : SheetRefusal) → Fails why sh rs rest → reading bs ≡ Err (fault why (at + beyond why))
+  fails-read UnknownKind x = still UnknownKind (unread (fault UnknownKind at) (unknown rest at x))
+  fails-read CutShort x = still CutShort (unread (fault CutShort at) (short rest at x))
+  fails-read ShapeMisplaced x =
+      still ShapeMisplaced (unput (x .0) (x .1) (not-shape-end (x .0) (x .2)) (fault ShapeMisplaced at) (shape-refused sh rs (x .0) at (b .sized) (x .2)))
+  fails-read OutOfRange x =
+      still OutOfRange (unput (x .0) (x .1) (x .2 .1) (fault OutOfRange at) (range-refused sh rs (x .0) at (b .sized) (x .2 .0) (x .3)))
+  fails-read Repeated x =
+      still Repeated (unput (x .0) (x .1) (x .2 .1) (fault Repeated at) (again-refused sh rs (x .0) at (b .sized) (x .2 .0) (x .3) (x .4)))
+  fails-read TooManyPairs x =
+      still TooManyPairs (unput (x .0) (x .1) (x .2 .1) (fault TooManyPairs at) (room-refused sh rs (x .0) at (b .sized) (x .2 .0) (x .3) (x .4) (x .5)))
+  fails-read NotAnOrder x =
+      still NotAnOrder (unput (x .0) (x .1) (x .2 .1) (fault NotAnOrder at) (order-refused sh rs (x .0) at (b .sized) (x .2 .0) (x .3) (x .4) (x .5) (x .6)))
+  fails-read BytesAfterEnd x =
       let l = whole-length bs sh rs at rest b in
-      let k = ap length (q .2) in
-      moved BytesAfterEnd on 1 (x .1) (unended (q .0 ∷ q .1) (q .2) (fault BytesAfterEnd (at + 1)) (closed-early (said sh rs) at (length bs) (omega arith)))
-  fails-read Incomplete on x =
+      let k = ap length (x .2) in
+      unended (x .0 ∷ x .1) (x .2) (fault BytesAfterEnd (at + 1)) (closed-early (said sh rs) at (length bs) (omega arith))
+  fails-read Incomplete x =
       let l = whole-length bs sh rs at rest b in
       let k = ap length (x .0) in
-      still Incomplete on (x .2) (unended [] (x .0) (fault Incomplete at) (closed-late (said sh rs) at (length bs) (omega arith) ∙ cond-false _ _ _ (no-whole (isWhole (said sh rs)) (decides-whole sh rs (b .sized)) (x .1))))
+      still Incomplete (unended [] (x .0) (fault Incomplete at) (closed-late (said sh rs) at (length bs) (omega arith) ∙ cond-false _ _ _ (no-whole (isWhole (said sh rs)) (decides-whole sh rs (b .sized)) (x .1))))
 
 misplaced : (r : Record) → (IsShape r → ⊥) → shaped r ≡ Err (fault ShapeMisplaced 0)
 misplaced (ShapeOf g p) h = absurd (h (g, p, refl))
@@ -320,7 +311,7 @@ first-fails bs ShapeMisplaced x =
 first-fails bs OutOfRange x =
     ap (λ l. bind (decoded l 0) shaped) (x .3)
     ∙ ap (λ d. bind d shaped) (reads (ShapeOf (x .0) (x .1)) (71 ∷ x .0 ∷ x .1 ∷ []) (x .2) 0 refl)
-    ∙ ap begun (cond-false (sized (x .0) (x .1)) (Some (shape-of (x .0) (x .1))) None (no-whole (sized (x .0) (x .1)) (sized-from (x .0) (x .1), sized-to (x .0) (x .1)) (x .4)))
+    ∙ ap started (cond-false (sized (x .0) (x .1)) (Some (shape-of (x .0) (x .1))) None (no-whole (sized (x .0) (x .1)) (sized-from (x .0) (x .1), sized-to (x .0) (x .1)) (x .4)))
 first-fails bs Repeated x = absurd x
 first-fails bs TooManyPairs x = absurd x
 first-fails bs NotAnOrder x = absurd x
@@ -330,7 +321,7 @@ first-fails bs Incomplete x = absurd x
 pub refused-reads : (bs : List ℕ) (f : SheetFault) → Refused bs f → reading bs ≡ Err f
 refused-reads bs f (inl x) = start-err bs f (first-fails bs (f .refusal) (x .0) ∙ ap (λ n. Err (fault (f .refusal) n)) (sym (x .1)))
 refused-reads bs f (inr x) =
-    fails-read bs (x .shape) (x .records) (x .place) (x .rest) (x .begun) (f .refusal) (x .on) (x .fails) ∙ ap (λ n. Err (fault (f .refusal) n)) (sym (x .at))
+    fails-read bs (x .shape) (x .records) (x .place) (x .rest) (x .begun) (f .refusal) (x .fails) ∙ ap (λ n. Err (fault (f .refusal) n)) (sym (x .at))
 
 -- both ways at once
 pub exactly : (bs : List ℕ) (o : Result Sheet SheetFault) → o ≡ reading bs → Exact bs o

@@ -16,7 +16,7 @@ use Rattle.records.specs.declared.item.Record.the-variants.{Shape as ShapeOf, T
 use Rattle.records.specs.Forms.{decoded, sizeOf}
 use Rattle.sheets.specs.declared.sheet.Sheet.{Sheet}
 use Rattle.sheets.specs.Taking.{verdict, taken}
-use Rattle.reading.specs.Reading.{bind, begun, shaped, opened, closed, atEnd, going, reading}
+use Rattle.reading.specs.Reading.{bind, started, shaped, opened, closed, atEnd, going, reading}
 
 -- a record that was read takes no more bytes than there are
 pub decoded-size : (bs : List ℕ) (at : ℕ) (r : Record) → decoded bs at ≡ Ok r → sizeOf r ≤ length bs

@@ -9,17 +9,18 @@ use lib.Dec.{leb, ltb, eqb}
 use lib.ListN.{length, getD}
 use Rattle.std.specs.Options.{isSome}
 use Rattle.std.specs.Orderings.{Decides}
-use Rattle.std.proofs.shelf.Tests.{not-true, true≢false, cases-lt, cases-bool}
+use Rattle.std.proofs.shelf.Tests.{true≢false, cases-lt, cond-true, lt-ltb}
 use Rattle.std.proofs.shelf.Ways.{tells, decides-at, decides-like, decides-not, decides-and, decides-or, decides-ltb, decides-eqb}
 use Rattle.std.specs.declared.option.Option.{Option}
 use Rattle.std.specs.declared.option.Option.the-variants.{Some, None}
 use Rattle.shapes.specs.declared.Shape.{Shape}
 use Rattle.shapes.specs.Teams.{Sized, ballsOf, HasTeam, hasTeam}
-use Rattle.shapes.proofs.Balls.{ball-number}
+use Rattle.shapes.proofs.Balls.{ball-number, balls-few}
 use Rattle.records.specs.declared.item.Record.{Record}
 use Rattle.records.specs.declared.item.Record.the-variants.{Shape as ShapeOf, Team, Pair, Cap, Bars, Seed, Script, End}
 use Rattle.sheets.specs.declared.sheet.Sheet.{Sheet}
 use Rattle.sheets.specs.declared.sheet.Entrant.{Entrant}
+use Rattle.sheets.specs.Entrants.{codeIn, associationIn, codeOf, associationOf}
 use Rattle.sheets.specs.Below.{allBelow, anyBelow}
 use Rattle.sheets.specs.Taking.{isShape, fits, repeated, crowded, ordered, letters, barsFit, standsBefore, inPlace, isOrder, named, scripted, scriptedIn, allNamed, anyScript, allScripts, hasSource, isWhole}
 use Rattle.sheets.proofs.Scans.{decides-all, decides-any}
@@ -46,6 +47,12 @@ module _ (sh : Shape) (rs : List Record) where
   pub team-said : (n : ℕ) → n < 96 → getD (said sh rs .teams) n None ≡ found (teamIn n) rs
   unfolding said
   team-said n h = getD-each 96 (λ k. found (teamIn k) rs) n None h
+
+  pub code-said : (n : ℕ) → n < 96 → codeOf (said sh rs) n ≡ codeIn (found (teamIn n) rs)
+  code-said n h = cond-true _ _ _ (lt-ltb n 96 h) ∙ ap codeIn (team-said n h)
+
+  pub association-said : (n : ℕ) → n < 96 → associationOf (said sh rs) n ≡ associationIn (found (teamIn n) rs)
+  association-said n h = cond-true _ _ _ (lt-ltb n 96 h) ∙ ap associationIn (team-said n h)
 
   cap-said : (n : ℕ) → n < 65 → getD (said sh rs .caps) n None ≡ found (capIn n) rs
   unfolding said
@@ -154,26 +161,26 @@ decides-place balls o i =
     ))
     (cases-lt i balls)
 
-decides-order : (balls : ℕ) (o : List ℕ) → Decides (isOrder balls o) (OrderOf balls o)
-decides-order balls o =
+decides-order : (balls : ℕ) (o : List ℕ) → balls ≤ 16 → Decides (isOrder balls o) (OrderOf balls o)
+decides-order balls o few =
     decides-like (isOrder balls o)
     (λ h. record {
-      ball = λ i b l. h i l .0 b .0;
-      once = λ i j b l k e. h i l .0 b .1 j k e;
+      ball = λ i b. h i (omega arith) .0 b .0;
+      once = λ i j b k e. h i (omega arith) .0 b .1 j k e;
       rest = λ i g l. h i l .1 g;
     })
-    (λ p i l. (λ b. (p .ball i b l, λ j k e. p .once i j b l k e), λ g. p .rest i g l))
+    (λ p i l. (λ b. (p .ball i b, λ j k e. p .once i j b k e), λ g. p .rest i g l))
     (decides-all (inPlace balls o) (InPlace balls o) (decides-place balls o) 16)
 
-pub decides-ordered : (sh : Shape) (r : Record) → Decides (ordered sh r) (Ordered sh r)
-decides-ordered sh (ShapeOf g p) = decides-yes
-decides-ordered sh (Team pot ball a c) = decides-yes
-decides-ordered sh (Pair a b) = decides-yes
-decides-ordered sh (Cap a m) = decides-yes
-decides-ordered sh (Bars n g) = decides-yes
-decides-ordered sh (Seed x) = decides-yes
-decides-ordered sh (Script pot o) = decides-order (ballsOf sh pot) o
-decides-ordered sh End = decides-yes
+pub decides-ordered : (sh : Shape) (r : Record) → Sized (sh .groups) (sh .pots) → Decides (ordered sh r) (Ordered sh r)
+decides-ordered sh (ShapeOf g p) z = decides-yes
+decides-ordered sh (Team pot ball a c) z = decides-yes
+decides-ordered sh (Pair a b) z = decides-yes
+decides-ordered sh (Cap a m) z = decides-yes
+decides-ordered sh (Bars n g) z = decides-yes
+decides-ordered sh (Seed x) z = decides-yes
+decides-ordered sh (Script pot o) z = decides-order (ballsOf sh pot) o (balls-few sh pot z)
+decides-ordered sh End z = decides-yes
 
 -- the end
 module _ (sh : Shape) (rs : List Record) (z : Sized (sh .groups) (sh .pots)) where

@@ -20,7 +20,8 @@ use Rattle.records.specs.declared.item.Record.{Record}
 use Rattle.records.specs.declared.item.Record.the-variants.{Shape as ShapeOf, Team, Pair, Cap, Bars, Seed, Script, End}
 use Rattle.sheets.specs.declared.sheet.Sheet.{Sheet}
 use Rattle.sheets.specs.declared.sheet.Entrant.{Entrant}
-use Rattle.sheets.specs.Taking.{blank, entrant, taken, withTeam, withPair, withCap, withBars, withSeed, withScript}
+use Rattle.sheets.specs.Entrants.{entrant}
+use Rattle.sheets.specs.Taking.{blank, taken, withTeam, withPair, withCap, withBars, withSeed, withScript}
 use Rattle.reading.specs.Format.{each, said, found, for, orElse, teamIn, capIn, barsIn, seedIn, scriptIn, pairsIn, Fits, Room}
 
 module _ {X : Type 0} where

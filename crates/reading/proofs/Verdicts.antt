@@ -18,7 +18,7 @@ use Rattle.records.specs.declared.item.Record.{Record}
 use Rattle.records.specs.declared.item.Record.the-variants.{End}
 use Rattle.records.specs.Refusals.{fault}
 use Rattle.sheets.specs.Taking.{isShape, fits, repeated, crowded, ordered, verdict}
-use Rattle.reading.specs.Format.{Front, said, Fits, Fresh, Room, Ordered, IsShape, Inner, Next, Fails}
+use Rattle.reading.specs.Format.{Front, said, Fits, Fresh, Room, Ordered, IsShape, Inner, Next, Fails, beyond}
 use Rattle.reading.proofs.Judging.{shape-said, decides-shape, decides-fits, decides-fresh, decides-room, decides-ordered}
 
 -- five tests in their order
@@ -31,25 +31,28 @@ tests a b c d e at =
 -- what an answer says of the record at the front
 abbrev pub Says : Shape → List Record → Record → List ℕ → ℕ → Result (Unit {0}) SheetFault → Type 0
 Says sh rs r rest at (Ok u) = Next sh rs r
-Says sh rs r rest at (Err f) = Fails (f .refusal) sh rs rest 0 × (f .place ≡ at)
+Says sh rs r rest at (Err f) = Fails (f .refusal) sh rs rest × (f .place ≡ at + beyond (f .refusal))
 
 no-from : {P : Type 0} (b : Bool) → Decides b P → b ≡ false → P → ⊥
 no-from b d h p = true≢false (sym (d .1 p) ∙ h)
 
 module _ (sh : Shape) (rs : List Record) (r : Record) (rest : List ℕ) (at : ℕ) (front : Front r rest) (ne : r ≡ End → ⊥) where
+  here : at ≡ at + 0
+  here = omega arith
+
   by-tests : (a b c d e : Bool) → Decides a (IsShape r) → Decides b (Fits sh r) → (Fits sh r → Decides (not c) (Fresh rs r)) → Decides (not d) (Room rs r) → Decides e (Ordered sh r)
       → Says sh rs r rest at (tests a b c d e at)
-  by-tests true b c d e da db dc dd de = (((r, front, da .0 refl), refl), refl)
-  by-tests false false c d e da db dc dd de = (((r, front, (no-from false da refl, ne), no-from false db refl), refl), refl)
+  by-tests true b c d e da db dc dd de = ((r, front, da .0 refl), here)
+  by-tests false false c d e da db dc dd de = ((r, front, (no-from false da refl, ne), no-from false db refl), here)
   by-tests false true true d e da db dc dd de =
       let f = db .0 refl in
-      (((r, front, (no-from false da refl, ne), f, no-from false (dc f) refl), refl), refl)
+      ((r, front, (no-from false da refl, ne), f, no-from false (dc f) refl), here)
   by-tests false true false true e da db dc dd de =
       let f = db .0 refl in
-      (((r, front, (no-from false da refl, ne), f, dc f .0 refl, no-from false dd refl), refl), refl)
+      ((r, front, (no-from false da refl, ne), f, dc f .0 refl, no-from false dd refl), here)
   by-tests false true false false false da db dc dd de =
       let f = db .0 refl in
-      (((r, front, (no-from false da refl, ne), f, dc f .0 refl, dd .0 refl, no-from false de refl), refl), refl)
+      ((r, front, (no-from false da refl, ne), f, dc f .0 refl, dd .0 refl, no-from false de refl), here)
   by-tests false true false false true da db dc dd de =
       let f = db .0 refl in
       record { inner = (no-from false da refl, ne); fits = f; fresh = dc f .0 refl; room = dd .0 refl; ordered = de .0 refl }
@@ -57,7 +60,7 @@ module _ (sh : Shape) (rs : List Record) (r : Record) (rest : List ℕ) (at : �
   pub judged : Sized (sh .groups) (sh .pots) → Says sh rs r rest at (verdict (said sh rs) r at)
   judged z =
       subst (λ s. Says sh rs r rest at (tests (isShape r) (fits s r) (repeated (said sh rs) r) (crowded (said sh rs) r) (ordered s r) at)) (sym (shape-said sh rs))
-      (by-tests (isShape r) (fits sh r) (repeated (said sh rs) r) (crowded (said sh rs) r) (ordered sh r) (decides-shape r) (decides-fits sh r z) (decides-fresh sh rs r z) (decides-room sh rs r) (decides-ordered sh r))
+      (by-tests (isShape r) (fits sh r) (repeated (said sh rs) r) (crowded (said sh rs) r) (ordered sh r) (decides-shape r) (decides-fits sh r z) (decides-fresh sh rs r z) (decides-room sh rs r) (decides-ordered sh r z))
 
 -- and back: the answer, from the conditions
 no-to : {P : Type 0} (b : Bool) → Decides b P → (P → ⊥) → b ≡ false
@@ -92,7 +95,7 @@ module _ (sh : Shape) (rs : List Record) (r : Record) (at : ℕ) (z : Sized (sh 
       let b = decides-fits sh r z .1 (n .fits) in
       let c = fresh-no (n .fits) (n .fresh) in
       let d = room-no (n .room) in
-      let e = decides-ordered sh r .1 (n .ordered) in
+      let e = decides-ordered sh r z .1 (n .ordered) in
       is-run ∙ cc
 
   pub shape-refused : IsShape r → verdict (said sh rs) r at ≡ Err (fault ShapeMisplaced at)
@@ -127,5 +130,5 @@ module _ (sh : Shape) (rs : List Record) (r : Record) (at : ℕ) (z : Sized (sh 
       let b = decides-fits sh r z .1 f in
       let c = fresh-no f g in
       let d = room-no m in
-      let e = no-to (ordered sh r) (decides-ordered sh r) o in
+      let e = no-to (ordered sh r) (decides-ordered sh r z) o in
       is-run ∙ cc

@@ -1,5 +1,5 @@
 -- A sheet in the format's own words: which bytes are a sheet, what it says, and which fault other bytes have.
--- Independent of the reading. Assumes nothing.
+-- It names no part of the reader. Assumes nothing.
 use mathlib.Core.Path.{_≡_}
 use mathlib.Core.Bool.{cond}
 use mathlib.Core.List.{List, [], _∷_, _++_, map}
@@ -22,7 +22,7 @@ use Rattle.records.specs.declared.item.Record.the-variants.{Shape as ShapeOf, T
 use Rattle.records.specs.Forms.{Form, bodyOf}
 use Rattle.sheets.specs.declared.sheet.Sheet.{Sheet}
 use Rattle.sheets.specs.declared.sheet.Entrant.{Entrant}
-use Rattle.sheets.specs.Taking.{entrant}
+use Rattle.sheets.specs.Entrants.{entrant, codeIn, associationIn, codeOf, associationOf}
 
 -- Records one after the other
 
@@ -50,6 +50,13 @@ Short bs =
 abbrev pub orElse : {X : Type 0} → Option X → Option X → Option X
 orElse (Some x) o = Some x
 orElse None o = o
+
+-- nothing was said; something was
+abbrev pub Missing : {X : Type 0} → Option X → Type 0
+Missing o = o ≡ None
+
+abbrev pub Given : {X : Type 0} → Option X → Type 0
+Given o = o ≡ None → ⊥
 
 -- what the latest of the records says that says anything of it
 abbrev pub found : {X : Type 0} → (Record → Option X) → List Record → Option X
@@ -151,8 +158,8 @@ Capital x = (65 ≤ x) × (x ≤ 90)
 
 -- each of the first so many places has a ball of the pot, no two the same, and 255 stands behind them
 pub record OrderOf (balls : ℕ) (order : List ℕ) : Type 0 where
-  pub ball : (i : ℕ) → i < balls → i < 16 → getD order i 0 < balls
-  pub once : (i j : ℕ) → i < balls → i < 16 → j < i → getD order j 0 ≡ getD order i 0 → ⊥
+  pub ball : (i : ℕ) → i < balls → getD order i 0 < balls
+  pub once : (i j : ℕ) → i < balls → j < i → getD order j 0 ≡ getD order i 0 → ⊥
   pub rest : (i : ℕ) → balls ≤ i → i < 16 → getD order i 0 ≡ 255
 
 -- each field is in range
@@ -170,12 +177,12 @@ Fits sh End = Unit {0}
 -- no earlier T or B for the team, C for the association, S for the pot, or U
 abbrev pub Fresh : List Record → Record → Type 0
 Fresh rs (ShapeOf g p) = Unit {0}
-Fresh rs (Team pot ball a c) = found (teamIn (16 * pot + ball)) rs ≡ None
+Fresh rs (Team pot ball a c) = Missing (found (teamIn (16 * pot + ball)) rs)
 Fresh rs (Pair a b) = Unit {0}
-Fresh rs (Cap a m) = found (capIn a) rs ≡ None
-Fresh rs (Bars n g) = found (barsIn n) rs ≡ None
-Fresh rs (Seed x) = found seedIn rs ≡ None
-Fresh rs (Script pot o) = found (scriptIn pot) rs ≡ None
+Fresh rs (Cap a m) = Missing (found (capIn a) rs)
+Fresh rs (Bars n g) = Missing (found (barsIn n) rs)
+Fresh rs (Seed x) = Missing (found seedIn rs)
+Fresh rs (Script pot o) = Missing (found (scriptIn pot) rs)
 Fresh rs End = Unit {0}
 
 -- a pair is at most the 64th
@@ -223,16 +230,17 @@ Kept sh (r ∷ rs) = Next sh rs r × Kept sh rs
 
 -- What has to be there at the end
 
--- a U and no S
+-- a U, and no S for any of the pots, which are six at most
 abbrev pub FromUrn : List Record → Type 0
-FromUrn rs = (found seedIn rs ≡ None → ⊥) × ((pot : ℕ) → pot < 6 → found (scriptIn pot) rs ≡ None)
+FromUrn rs = Given (found seedIn rs) × ((pot : ℕ) → pot < 6 → Missing (found (scriptIn pot) rs))
 
--- an S for each pot and no U
+-- no U, and an S for each pot of the shape
 abbrev pub FromScripts : Shape → List Record → Type 0
-FromScripts sh rs = (found seedIn rs ≡ None) × ((pot : ℕ) → pot < sh .pots → found (scriptIn pot) rs ≡ None → ⊥)
+FromScripts sh rs = Missing (found seedIn rs) × ((pot : ℕ) → pot < sh .pots → Given (found (scriptIn pot) rs))
 
+-- each team of the shape has its T, and the balls have one source
 pub record Whole (sh : Shape) (rs : List Record) : Type 0 where
-  pub named : (n : ℕ) → HasTeam sh n → found (teamIn n) rs ≡ None → ⊥
+  pub named : (n : ℕ) → HasTeam sh n → Given (found (teamIn n) rs)
   pub source : FromUrn rs ⊎ FromScripts sh rs
 
 -- Sheets
@@ -254,6 +262,8 @@ pub record Accepted (bs : List ℕ) (t : Sheet) : Type 0 where
   pub begun : Begun bs shape records place (90 ∷ [])
   pub whole : Whole shape records
   pub says : t ≡ said shape records
+  pub codes : (n : ℕ) → n < 96 → codeOf t n ≡ codeIn (found (teamIn n) records)
+  pub associations : (n : ℕ) → n < 96 → associationOf t n ≡ associationIn (found (teamIn n) records)
 
 -- Faults
 
@@ -270,20 +280,30 @@ FailsFirst NotAnOrder bs = ⊥
 FailsFirst BytesAfterEnd bs = ⊥
 FailsFirst Incomplete bs = ⊥
 
--- what is wrong with the rest after records in order, and how many bytes on
-abbrev pub Fails : SheetRefusal → Shape → List Record → List ℕ → ℕ → Type 0
-Fails UnknownKind sh rs rest on = Unknown rest × (on ≡ 0)
-Fails CutShort sh rs rest on = Short rest × (on ≡ 0)
-Fails ShapeMisplaced sh rs rest on = ((r : Record) × Front r rest × IsShape r) × (on ≡ 0)
-Fails OutOfRange sh rs rest on = ((r : Record) × Front r rest × Inner r × (Fits sh r → ⊥)) × (on ≡ 0)
-Fails Repeated sh rs rest on =
-    ((r : Record) × Front r rest × Inner r × Fits sh r × (Fresh rs r → ⊥)) × (on ≡ 0)
-Fails TooManyPairs sh rs rest on =
-    ((r : Record) × Front r rest × Inner r × Fits sh r × Fresh rs r × (Room rs r → ⊥)) × (on ≡ 0)
-Fails NotAnOrder sh rs rest on =
-    ((r : Record) × Front r rest × Inner r × Fits sh r × Fresh rs r × Room rs r × (Ordered sh r → ⊥)) × (on ≡ 0)
-Fails BytesAfterEnd sh rs rest on = ((next : ℕ) × (more : List ℕ) × (rest ≡ 90 ∷ next ∷ more)) × (on ≡ 1)
-Fails Incomplete sh rs rest on = (rest ≡ 90 ∷ []) × (Whole sh rs → ⊥) × (on ≡ 0)
+-- what is wrong with the rest after records in order
+abbrev pub Fails : SheetRefusal → Shape → List Record → List ℕ → Type 0
+Fails UnknownKind sh rs rest = Unknown rest
+Fails CutShort sh rs rest = Short rest
+Fails ShapeMisplaced sh rs rest = (r : Record) × Front r rest × IsShape r
+Fails OutOfRange sh rs rest = (r : Record) × Front r rest × Inner r × (Fits sh r → ⊥)
+Fails Repeated sh rs rest = (r : Record) × Front r rest × Inner r × Fits sh r × (Fresh rs r → ⊥)
+Fails TooManyPairs sh rs rest = (r : Record) × Front r rest × Inner r × Fits sh r × Fresh rs r × (Room rs r → ⊥)
+Fails NotAnOrder sh rs rest =
+    (r : Record) × Front r rest × Inner r × Fits sh r × Fresh rs r × Room rs r × (Ordered sh r → ⊥)
+Fails BytesAfterEnd sh rs rest = (next : ℕ) × (more : List ℕ) × (rest ≡ 90 ∷ next ∷ more)
+Fails Incomplete sh rs rest = (rest ≡ 90 ∷ []) × (Whole sh rs → ⊥)
+
+-- how far behind the beginning of the rest the fault's place is: for bytes after Z, behind that Z
+abbrev pub beyond : SheetRefusal → ℕ
+beyond UnknownKind = 0
+beyond CutShort = 0
+beyond ShapeMisplaced = 0
+beyond OutOfRange = 0
+beyond Repeated = 0
+beyond TooManyPairs = 0
+beyond NotAnOrder = 0
+beyond BytesAfterEnd = 1
+beyond Incomplete = 0
 
 -- records in order, and then one at fault
 pub record FailsLater (bs : List ℕ) (f : SheetFault) : Type 0 where
@@ -291,10 +311,9 @@ pub record FailsLater (bs : List ℕ) (f : SheetFault) : Type 0 where
   pub records : List Record
   pub place : ℕ
   pub rest : List ℕ
-  pub on : ℕ
   pub begun : Begun bs shape records place rest
-  pub fails : Fails (f .refusal) shape records rest on
-  pub at : f .place ≡ place + on
+  pub fails : Fails (f .refusal) shape records rest
+  pub at : f .place ≡ place + beyond (f .refusal)
 
 -- the bytes are no sheet, and this is their first fault
 abbrev pub Refused : List ℕ → SheetFault → Type 0

@@ -1,5 +1,5 @@
 -- What is read of a sheet, record by record from the front. Assumes nothing.
-use mathlib.Core.Bool.{Bool, cond}
+use mathlib.Core.Bool.{cond}
 use mathlib.Core.List.{List}
 use Prim.Native.Nat.{ℕ, zero, suc, _+_}
 use lib.Dec.{ltb}
@@ -24,13 +24,13 @@ abbrev pub bind : {X Y : Type 0} → Result X SheetFault → (X → Result Y She
 bind (Ok x) f = f x
 bind (Err e) f = Err e
 
-abbrev pub begun : Option Shape → Result Sheet SheetFault
-begun (Some sh) = Ok (blank sh)
-begun None = Err (fault OutOfRange 0)
+abbrev pub started : Option Shape → Result Sheet SheetFault
+started (Some sh) = Ok (blank sh)
+started None = Err (fault OutOfRange 0)
 
 -- the first record must be the shape
 abbrev pub shaped : Record → Result Sheet SheetFault
-shaped (ShapeOf g p) = begun (shapeOf g p)
+shaped (ShapeOf g p) = started (shapeOf g p)
 shaped (Team pot ball a c) = Err (fault ShapeMisplaced 0)
 shaped (Pair a b) = Err (fault ShapeMisplaced 0)
 shaped (Cap a m) = Err (fault ShapeMisplaced 0)
@@ -59,7 +59,7 @@ atEnd (Script pot o) x y = y
 atEnd End x y = x
 
 -- what the records in bs, which begin at a place of a sheet of len bytes, make of the sheet record s,
--- with at most n records to come
+-- with at most n records to come; the bytes of a sheet are always enough, since a record has one at least
 unfoldable pub going : ℕ → Sheet → List ℕ → ℕ → ℕ → Result Sheet SheetFault
 going zero s bs at len = Err (fault CutShort at)
 going (suc n) s bs at len =

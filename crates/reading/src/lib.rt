@@ -1,7 +1,7 @@
 // Reads a sheet: records of a kind byte and a body whose length the kind fixes, from the front.
 ghost use mathlib.Core.Path.{_≡_};
 ghost use Prim.Native.Nat.{_<_};
-ghost use lib.ListN.{length};
+ghost use Rattle.std.specs.declared.result.Result.the-variants.{Ok, Err};
 ghost use Rattle.reading.specs.Format.{Exact, told};
 ghost use Rattle.reading.specs.Reading.{opened, closed, reading, answered, filled};
 use records::Record;
@@ -61,6 +61,7 @@ pub fn read(bytes: &[u8], sheet: &mut Sheet) -> Result<(), SheetFault>
     ensures answer { λ r. ⌜ r ≡ answered (reading (now (bytes .entry))) ⌝ }
     ensures after { λ _. ⌜ now (sheet .exit) ≡ filled (reading (now (bytes .entry))) (now (sheet .entry)) ⌝ }
     ensures exact { λ r. ⌜ Exact (now (bytes .entry)) (told r (now (sheet .exit))) ⌝ }
+    ensures kept { λ r. ⌜ elim r [ Ok _ ↦ Unit {0} | Err _ ↦ now (sheet .exit) ≡ now (sheet .entry) ] ⌝ }
 {
     let said = whole_sheet(bytes)?;
     *sheet = said;

@@ -1,9 +1,8 @@
 -- A record of a sheet: its bytes, and what is read of bytes. Assumes nothing.
 use mathlib.Core.Path.{_≡_}
-use mathlib.Core.Bool.{Bool, cond}
+use mathlib.Core.Bool.{cond}
 use mathlib.Core.List.{List, [], _∷_}
-use mathlib.Core.Logic.{_⊎_}
-use Prim.Native.Nat.{ℕ, _+_, _*_, _<_}
+use Prim.Native.Nat.{ℕ, _+_, _*_}
 use lib.Dec.{leb, eqb}
 use lib.ListN.{length, getD, take, drop}
 use Rattle.std.specs.declared.option.Option.{Option}
@@ -26,6 +25,8 @@ eight bs =
     + getD bs 5 0 * 65536
     + getD bs 6 0 * 256
     + getD bs 7 0
+
+-- the kinds are letters: G is 71, T 84, X 88, C 67, B 66, U 85, S 83 and Z 90
 
 -- the bytes are those of the record: a byte of kind, then the body
 abbrev pub Form : Record → List ℕ → Type 0
@@ -63,19 +64,19 @@ sizeOf (Script pot o) = 18
 sizeOf End = 1
 
 -- a record of n bytes, where so many are there
-abbrev pub whole : List ℕ → ℕ → ℕ → Record → Result Record SheetFault
-whole bs at n r = cond (leb n (length bs)) (Ok r) (Err (fault CutShort at))
+abbrev pub ifLong : List ℕ → ℕ → ℕ → Record → Result Record SheetFault
+ifLong bs at n r = cond (leb n (length bs)) (Ok r) (Err (fault CutShort at))
 
 -- the record at the front of bytes that stand at a place
 abbrev pub decoded : List ℕ → ℕ → Result Record SheetFault
 decoded bs at =
     cond (eqb (length bs) 0) (Err (fault CutShort at))
-    (cond (eqb (getD bs 0 0) 71) (whole bs at 3 (Shape (getD bs 1 0) (getD bs 2 0)))
-    (cond (eqb (getD bs 0 0) 84) (whole bs at 7 (Team (getD bs 1 0) (getD bs 2 0) (getD bs 3 0) (getD bs 4 0 ∷ getD bs 5 0 ∷ getD bs 6 0 ∷ [])))
-    (cond (eqb (getD bs 0 0) 88) (whole bs at 3 (Pair (getD bs 1 0) (getD bs 2 0)))
-    (cond (eqb (getD bs 0 0) 67) (whole bs at 3 (Cap (getD bs 1 0) (getD bs 2 0)))
-    (cond (eqb (getD bs 0 0) 66) (whole bs at 4 (Bars (getD bs 1 0) (getD bs 2 0 * 256 + getD bs 3 0)))
-    (cond (eqb (getD bs 0 0) 85) (whole bs at 9 (Seed (eight (drop 1 bs))))
-    (cond (eqb (getD bs 0 0) 83) (whole bs at 18 (Script (getD bs 1 0) (take 16 (drop 2 bs))))
+    (cond (eqb (getD bs 0 0) 71) (ifLong bs at 3 (Shape (getD bs 1 0) (getD bs 2 0)))
+    (cond (eqb (getD bs 0 0) 84) (ifLong bs at 7 (Team (getD bs 1 0) (getD bs 2 0) (getD bs 3 0) (getD bs 4 0 ∷ getD bs 5 0 ∷ getD bs 6 0 ∷ [])))
+    (cond (eqb (getD bs 0 0) 88) (ifLong bs at 3 (Pair (getD bs 1 0) (getD bs 2 0)))
+    (cond (eqb (getD bs 0 0) 67) (ifLong bs at 3 (Cap (getD bs 1 0) (getD bs 2 0)))
+    (cond (eqb (getD bs 0 0) 66) (ifLong bs at 4 (Bars (getD bs 1 0) (getD bs 2 0 * 256 + getD bs 3 0)))
+    (cond (eqb (getD bs 0 0) 85) (ifLong bs at 9 (Seed (eight (drop 1 bs))))
+    (cond (eqb (getD bs 0 0) 83) (ifLong bs at 18 (Script (getD bs 1 0) (take 16 (drop 2 bs))))
     (cond (eqb (getD bs 0 0) 90) (Ok End)
     (Err (fault UnknownKind at))))))))))

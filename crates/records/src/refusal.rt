@@ -54,13 +54,13 @@ pub struct SheetFault {
 
 // On the way up the fault keeps its number and its place, and has the layer of reading.
 pub impl From<SheetFault> for Fault as SheetFaultRaised {
-    ghost converts = { λ fault up. up ≡ raised fault };
+    ghost converts = { λ below up. up ≡ raised below };
 
-    fn from(fault: SheetFault) -> Fault {
+    fn from(below: SheetFault) -> Fault {
         Fault {
             layer: Layer::Reading,
-            number: fault.refusal.number(),
-            place: fault.place,
+            number: below.refusal.number(),
+            place: below.place,
         }
     }
 }

@@ -1,10 +1,9 @@
 -- What one more record makes of a sheet record, test by test. Assumes nothing.
-use mathlib.Core.Path.{_≡_}
 use mathlib.Core.Bool.{Bool, true, false, cond, not, _&&_, _||_}
-use mathlib.Core.List.{List, [], _∷_, _++_}
+use mathlib.Core.List.{List}
 use Prim.Native.Nat.{ℕ, _+_, _*_, _^_}
 use lib.Dec.{leb, ltb, eqb}
-use lib.ListN.{length, getD, set, replicate}
+use lib.ListN.{getD, set, replicate}
 use Rattle.std.specs.Options.{isSome}
 use Rattle.std.specs.declared.option.Option.{Option}
 use Rattle.std.specs.declared.option.Option.the-variants.{Some, None}
@@ -20,9 +19,7 @@ use Rattle.records.specs.Refusals.{fault}
 use Rattle.sheets.specs.declared.sheet.Sheet.{Sheet}
 use Rattle.sheets.specs.declared.sheet.Entrant.{Entrant}
 use Rattle.sheets.specs.Below.{allBelow, anyBelow}
-
-abbrev pub dashes : List ℕ
-dashes = 45 ∷ 45 ∷ 45 ∷ []
+use Rattle.sheets.specs.Entrants.{entrant}
 
 -- the record of a shape, of which nothing else is said
 abbrev pub blank : Shape → Sheet
@@ -37,29 +34,15 @@ blank sh = record {
   scripts = replicate 6 None;
 }
 
-abbrev pub codeIn : Option Entrant → List ℕ
-codeIn (Some e) = e .code
-codeIn None = dashes
-
-abbrev pub associationIn : Option Entrant → Option ℕ
-associationIn (Some e) = e .association
-associationIn None = None
-
--- the code of a number, --- where it has no T
-abbrev pub codeOf : Sheet → ℕ → List ℕ
-codeOf s n = cond (ltb n 96) (codeIn (getD (s .teams) n None)) dashes
-
-abbrev pub associationOf : Sheet → ℕ → Option ℕ
-associationOf s n = cond (ltb n 96) (associationIn (getD (s .teams) n None)) None
-
--- capital letters, three of them
+-- a capital letter
 abbrev pub letter : ℕ → Bool
 letter x = leb 65 x && leb x 90
 
+-- three of them
 abbrev pub letters : List ℕ → Bool
 letters c = letter (getD c 0 0) && (letter (getD c 1 0) && letter (getD c 2 0))
 
--- no bit at or above the number of groups
+-- no bit at or above the number of groups; 16 is the most that two bytes can bar
 abbrev pub barsFit : ℕ → ℕ → Bool
 barsFit bits groups = leb groups 16 && ltb bits (2 ^ groups)
 
@@ -74,10 +57,7 @@ inPlace balls o i = cond (ltb i balls) (ltb (getD o i 0) balls && not (standsBef
 abbrev pub isOrder : ℕ → List ℕ → Bool
 isOrder balls o = allBelow (inPlace balls o) 16
 
--- association 0 in a T says that the team has none
-abbrev pub entrant : ℕ → List ℕ → Entrant
-entrant a c = record { association = cond (eqb a 0) None (Some a); code = c }
-
+-- a record that only the front of a sheet has
 abbrev pub isShape : Record → Bool
 isShape (ShapeOf g p) = true
 isShape (Team pot ball a c) = false
@@ -88,7 +68,8 @@ isShape (Seed x) = false
 isShape (Script pot o) = false
 isShape End = false
 
--- each field is in range
+-- each field is in range. The fixed limits of pot and ball hold of every shape of a draw; they keep a number
+-- below 96 whatever shape the record has
 abbrev pub fits : Shape → Record → Bool
 fits sh (ShapeOf g p) = true
 fits sh (Team pot ball a c) = (leb pot 5 && (leb ball 15 && leb a 64)) && (ltb ball (ballsOf sh pot) && letters c)
@@ -235,7 +216,7 @@ taken s (Seed x) = withSeed s x
 taken s (Script pot o) = withScript s pot o
 taken s End = s
 
--- at the end: each team of the shape has its T
+-- at the end: a number that is a team of the shape has its T
 abbrev pub named : Sheet → ℕ → Bool
 named s n = not (hasTeam (s .shape) n) || isSome (getD (s .teams) n None)
 

@@ -1,9 +1,6 @@
 // Whether sixteen bytes are an order of a pot's balls, and 255 from there on.
 ghost use mathlib.Core.Path.{_≡_};
 ghost use Prim.Native.Nat.{_<_};
-ghost use lib.Dec.{eqb};
-ghost use lib.ListN.{getD};
-ghost use Rattle.sheets.specs.Below.{anyBelow, allBelow};
 ghost use Rattle.sheets.specs.Taking.{standsBefore, inPlace, isOrder};
 
 // Whether the byte at a place stands at an earlier place too.

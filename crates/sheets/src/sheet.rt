@@ -1,6 +1,7 @@
 // The caller's sheet record.
 ghost use mathlib.Core.Path.{_≡_};
-ghost use Rattle.sheets.specs.Taking.{blank, codeOf, associationOf};
+ghost use Rattle.sheets.specs.Entrants.{associationOf, codeOf};
+ghost use Rattle.sheets.specs.Taking.{blank};
 use shapes::Shape;
 
 // What a T says of its team. A team has at most one association.
