@@ -1,9 +1,10 @@
 // A list whose entries stand in memory that its caller lends.
 ghost use mathlib.Core.Path.{_≡_};
-ghost use Prim.Native.Nat.{_<_, _≤_};
-ghost use lib.ListN.{getD, length};
+ghost use Prim.Native.Nat.{_-_, _≤_};
+ghost use lib.ListN.{length};
 ghost use denote.Ref.{name, now};
-ghost use Rattle.lists.specs.Entries.{Added, Found, TakenOff, numberOf};
+ghost use Rattle.std.specs.Finite.{nth};
+ghost use Rattle.lists.specs.Entries.{added, counted, entries, numberOf, written};
 
 #[derive(Clone, Copy, PartialEq, Eq, Debug)]
 pub enum ListRefusal {
@@ -20,7 +21,7 @@ impl ListRefusal {
     }
 }
 
-// The first `count` places of `memory` are the entries; the others keep what the caller had there.
+// The first `count` places of `memory` are the entries. The list writes to no other place but the next.
 #[derive(Drop)]
 pub struct List<'a, T> {
     memory: &'a mut [T],
@@ -28,11 +29,16 @@ pub struct List<'a, T> {
     ghost ok: { count ≤ length (now memory) },
 }
 
-fn entry_at<T: Copy>(memory: &[T], place: usize) -> T
-    requires { ⌜ place < length (now memory) ⌝ }
-    ensures { λ r. ⌜ r ≡ getD (now (memory .entry)) place r ⌝ }
+// The entry at `place` of the first `count`.
+fn entry_at<T: Copy>(memory: &[T], count: usize, place: usize) -> Option<T>
+    requires { ⌜ count ≤ length (now memory) ⌝ }
+    ensures { λ r. ⌜ r ≡ nth (entries (now (memory .entry)) count) place ⌝ }
 {
-    memory[place]
+    if place < count {
+        Some(memory[place])
+    } else {
+        None
+    }
 }
 
 impl<'a, T: Copy> List<'a, T> {
@@ -54,19 +60,17 @@ impl<'a, T: Copy> List<'a, T> {
 
     // The entry at `place`, or none where the entries end before it.
     pub fn get(&self, place: usize) -> Option<T>
-        ensures { λ r. ⌜ Found (now (now (self .entry) .memory)) (now (self .entry) .count) place r ⌝ }
+        ensures { λ r. ⌜ r ≡ nth (entries (now (now (self .entry) .memory)) (now (self .entry) .count)) place ⌝ }
     {
-        if place < self.count {
-            Some(entry_at(&*self.memory, place))
-        } else {
-            None
-        }
+        entry_at(&*self.memory, self.count, place)
     }
 
     // Adds `entry` behind the others, or refuses where every place is used.
     pub fn add(&mut self, entry: T) -> Result<(), ListRefusal>
-        ensures change { λ r. ⌜ Added (now (now (self .entry) .memory)) (now (self .entry) .count) entry r (now (now (self .exit) .memory)) (now (self .exit) .count) ⌝ }
-        ensures lender { λ r. ⌜ name (now (self .exit) .memory) ≡ name (now (self .entry) .memory) ⌝ }
+        ensures answer { λ r. ⌜ r ≡ added (now (now (self .entry) .memory)) (now (self .entry) .count) ⌝ }
+        ensures memory { λ _. ⌜ now (now (self .exit) .memory) ≡ written (now (now (self .entry) .memory)) (now (self .entry) .count) entry ⌝ }
+        ensures count { λ _. ⌜ now (self .exit) .count ≡ counted (now (now (self .entry) .memory)) (now (self .entry) .count) ⌝ }
+        ensures lender { λ _. ⌜ name (now (self .exit) .memory) ≡ name (now (self .entry) .memory) ⌝ }
     {
         if self.count < self.memory.len() {
             self.memory[self.count] = entry;
@@ -77,17 +81,17 @@ impl<'a, T: Copy> List<'a, T> {
         }
     }
 
-    // Takes the last entry off, so that the next one added takes its place.
+    // Takes the last entry off, so that the next one added takes its place; none from an empty list.
     pub fn take_off(&mut self) -> Option<T>
-        ensures change { λ r. ⌜ TakenOff (now (now (self .entry) .memory)) (now (self .entry) .count) r (now (now (self .exit) .memory)) (now (self .exit) .count) ⌝ }
-        ensures lender { λ r. ⌜ name (now (self .exit) .memory) ≡ name (now (self .entry) .memory) ⌝ }
+        ensures answer { λ r. ⌜ r ≡ nth (entries (now (now (self .entry) .memory)) (now (self .entry) .count)) (now (self .entry) .count - 1) ⌝ }
+        ensures memory { λ _. ⌜ now (now (self .exit) .memory) ≡ now (now (self .entry) .memory) ⌝ }
+        ensures count { λ _. ⌜ now (self .exit) .count ≡ now (self .entry) .count - 1 ⌝ }
+        ensures lender { λ _. ⌜ name (now (self .exit) .memory) ≡ name (now (self .entry) .memory) ⌝ }
     {
-        if self.count == 0 {
-            None
-        } else {
-            self.count -= 1;
-            Some(self.memory[self.count])
-        }
+        let place = self.count.saturating_sub(1);
+        let last = self.get(place);
+        self.count = place;
+        last
     }
 }
 
