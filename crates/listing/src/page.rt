@@ -32,7 +32,12 @@ fn write_shape<W: fmt::Write>(f: &mut Formatter<W>, shape: Shape) -> fmt::Result
     if shape.groups > 1 {
         write!(f, " to {}", Group(shape.groups - 1))?;
     }
-    writeln!(f, "), {}, {}", Count(pots, "pot"), Count(groups * pots, "team"))
+    writeln!(
+        f,
+        "), {}, {}",
+        Count(pots, "pot"),
+        Count(groups * pots, "team")
+    )
 }
 
 fn write_pots<W: fmt::Write>(f: &mut Formatter<W>, sheet: &Sheet) -> fmt::Result {
@@ -135,7 +140,12 @@ fn write_source<W: fmt::Write>(f: &mut Formatter<W>, sheet: &Sheet) -> fmt::Resu
 }
 
 // The teams of a pot in the order of their balls; `---` for a ball past the numbers of teams.
-fn write_order<W: fmt::Write>(f: &mut Formatter<W>, sheet: &Sheet, pot: u8, order: [u8; 16]) -> fmt::Result {
+fn write_order<W: fmt::Write>(
+    f: &mut Formatter<W>,
+    sheet: &Sheet,
+    pot: u8,
+    order: [u8; 16],
+) -> fmt::Result {
     write!(f, "  pot {}:", pot.saturating_add(1))?;
     for ball in order.iter().take(usize::from(sheet.shape.groups)) {
         let team = pot.saturating_mul(16).saturating_add(*ball);
@@ -145,5 +155,9 @@ fn write_order<W: fmt::Write>(f: &mut Formatter<W>, sheet: &Sheet, pot: u8, orde
 }
 
 fn write_heading<W: fmt::Write>(f: &mut Formatter<W>, title: &str, any: bool) -> fmt::Result {
-    if any { writeln!(f, "{title}:") } else { writeln!(f, "{title}: none") }
+    if any {
+        writeln!(f, "{title}:")
+    } else {
+        writeln!(f, "{title}: none")
+    }
 }
