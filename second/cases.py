@@ -101,6 +101,21 @@ WORKED = [
 ALL_BUT_S = [G(2, 1), T(0, 0, 5, b"KLM"), T(0, 1, 0, b"NOP"), X(0, 1), C(5, 5), B(1, 2), U(0x0102030405060708), Z]
 ALL_BUT_U = [G(2, 2), T(1, 1, 9), T(0, 0, 64), T(1, 0), T(0, 1, 9), X(0, 16), C(9, 1), B(17, 1), S(1, [0, 1]), S(0, [1, 0]), Z]
 SHORTEST = [G(1, 1), T(0, 0, 1, b"ONE"), U(7), Z]
+# One group, and the forms of a listing's lines that WORKED has not.
+ONE_GROUP = [G(1, 2), T(0, 0, 0, b"ESP"), T(1, 0, 12, b"FRA"), X(0, 16), X(16, 0), C(12, 2), C(1, 6), B(0, 1), B(16, 0), U(42), Z]
+# The cup of docs/RUN.md, and the same with group E barred where D was meant.
+CUP = [
+    G(4, 3),
+    T(0, 0, 1, b"RIV"), T(0, 1, 2, b"HAR"), T(0, 2, 3, b"OAK"), T(0, 3, 4, b"NOR"),
+    T(1, 0, 1, b"CAS"), T(1, 1, 2, b"MIL"), T(1, 2, 0, b"LAK"), T(1, 3, 3, b"EAS"),
+    T(2, 0, 1, b"FEN"), T(2, 1, 0, b"BAY"), T(2, 2, 4, b"TOW"), T(2, 3, 2, b"WES"),
+    X(1, 16),
+    C(1, 1),
+    B(3, 2 ** 3),
+    U(20260611),
+    Z,
+]
+CUP_DAMAGED = [B(3, 2 ** 4) if record == B(3, 2 ** 3) else record for record in CUP]
 
 
 def largest(chance, urn=False):
@@ -504,7 +519,8 @@ def listed(out, chance):
     out.show(SHORTEST)
     out.show(ALL_BUT_S)
     out.show(ALL_BUT_U)
-    out.show(G(1, 2), T(0, 0, 0, b"ESP"), T(1, 0, 12, b"FRA"), X(0, 16), X(16, 0), C(12, 2), C(1, 6), B(0, 1), B(16, 0), U(42), Z)
+    out.show(ONE_GROUP)
+    out.show(CUP)
     out.show(plain(1, 1), S(0, [0]), Z)
     out.show(plain(1, 6, U(0)), Z)
     out.show(plain(16, 1, U(2 ** 64 - 1)), Z)
@@ -526,6 +542,7 @@ def listed(out, chance):
     out.show(Z)
     out.show(G(17, 6))
     out.show(WORKED[:2], T(0, 0, 2, b"BBB"), WORKED[3:])
+    out.show(CUP_DAMAGED)
     out.show(plain(2, 1, U(1)), [X(0, 1)] * 65, Z)
     out.show(plain(2, 1), S(0, [0, 0]), Z)
     out.show(WORKED, Z)
@@ -560,6 +577,9 @@ def write_sheets(directory):
         "worked.sheet": WORKED,
         "damaged.sheet": WORKED[:2] + [T(0, 0, 2, b"BBB")] + WORKED[3:],
         "largest.sheet": largest(Chance(1)),
+        "one_group.sheet": ONE_GROUP,
+        "cup.sheet": CUP,
+        "cup_damaged.sheet": CUP_DAMAGED,
     }
     for name, records in samples.items():
         with open(os.path.join(directory, name), "wb") as file:
