@@ -15,7 +15,7 @@ URN = "55 00 00 00 00 00 00 00 2a"
 CASES = [
     # What                                                  the sheet                                    the answer
     ("the empty sheet",                                     "",                                          "refused 1 2 0"),
-    ("the worked sheet",                                    WORKED + " 5a",                              "ok 2 2 T 0 1 AAA T 1 2 BBB T 16 1 CCC T 17 3 DDD C 1 1 S 0 1 0 S 1 1 0"),
+    ("the worked sheet",                                    WORKED + " 5a",                              "ok 2 2, T 0 1 AAA, T 1 2 BBB, T 16 1 CCC, T 17 3 DDD, C 1 1, S 0 1 0, S 1 1 0"),
     ("no Z",                                                WORKED,                                      "refused 1 2 70"),
     ("a byte after Z",                                      WORKED + " 5a 00",                           "refused 1 8 71"),
     ("a second Z counts as a byte after Z",                 WORKED + " 5a 5a",                           "refused 1 8 71"),
@@ -31,12 +31,12 @@ CASES = [
     ("a bad shape is told before the bad kind behind it",   "47 00 01 ff",                               "refused 1 4 0"),
     ("G and Z: no team, no source",                         "47 01 01 5a",                               "refused 1 9 3"),
     ("bytes after Z come before what is missing",           "47 01 01 5a 5a",                            "refused 1 8 4"),
-    ("the shortest sheet in order",                         "47 01 01" + ONE + URN + "5a",               "ok 1 1 T 0 0 AAA U 42"),
+    ("the shortest sheet in order",                         "47 01 01" + ONE + URN + "5a",               "ok 1 1, T 0 0 AAA, U 42"),
     ("U beside an S for every pot",                         "47 01 01" + ONE + URN + "53 00 00" + "ff" * 15 + "5a", "refused 1 9 37"),
     ("second T with a bad letter: 4, not 5",                "47 01 01" + ONE + "54 00 00 00 41 41 5b",   "refused 1 4 10"),
     ("second T",                                            "47 01 01" + ONE + ONE,                      "refused 1 5 10"),
     ("association 65 in a T",                               "47 01 01 54 00 00 41 41 41 41",             "refused 1 4 3"),
-    ("association 64 in a T",                               "47 01 01 54 00 00 40 41 41 41" + URN + "5a", "ok 1 1 T 0 64 AAA U 42"),
+    ("association 64 in a T",                               "47 01 01 54 00 00 40 41 41 41" + URN + "5a", "ok 1 1, T 0 64 AAA, U 42"),
     ("association 0 in a C",                                "47 01 01 43 00 01",                         "refused 1 4 3"),
     ("cap 7",                                               "47 01 01 43 01 07",                         "refused 1 4 3"),
     ("second C with another cap",                           "47 01 01 43 01 06 43 01 05",                "refused 1 5 6"),
@@ -59,7 +59,7 @@ CASES = [
     ("S for one pot of two",                                "47 01 02" + ONE + "54 01 00 00 42 42 42 53 01 00" + "ff" * 15 + "5a", "refused 1 9 35"),
     ("U beside that S",                                     "47 01 02" + ONE + "54 01 00 00 42 42 42 53 01 00" + "ff" * 15 + URN + "5a", "refused 1 9 44"),
     ("X, C and B before their teams; the largest seed",     "47 02 01 58 01 00 43 40 06 42 01 00 00 54 00 01 40 5a 5a 5a 54 00 00 00 41 41 41 55" + "ff" * 8 + "5a",
-     "ok 2 1 T 0 0 AAA T 1 64 ZZZ X 1 0 C 64 6 B 1 0 U 18446744073709551615"),
+     "ok 2 1, T 0 0 AAA, T 1 64 ZZZ, X 1 0, C 64 6, B 1 0, U 18446744073709551615"),
 ]
 
 

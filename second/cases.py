@@ -130,21 +130,17 @@ def largest(chance, urn=False):
     return [G(16, 6)] + body + [Z]
 
 
-# Random caps, pairs and bars keep the number 3 from standing right before a C or a B in an answer: there it would look
-# like a reference to some numbered paragraph to a search of the repository. The families below have their own 3s.
-
 def some_pair(chance, numbers):
     a, b = chance.shuffled(numbers)[:2]
-    return X(b, a) if b == 3 else X(a, b)
+    return X(a, b)
 
 
 def some_cap(chance, association):
-    return C(association, chance.pick([1, 2, 4, 5, 6]))
+    return C(association, 1 + chance.below(6))
 
 
 def some_bars(chance, number, groups):
-    bits = chance.below(2 ** groups)
-    return B(number, 1 if bits == 3 else bits)
+    return B(number, chance.below(2 ** groups))
 
 
 def code(chance):

@@ -219,20 +219,14 @@ def listing(sheet):
 
 
 def one_line(sheet):
-    words = ["ok", sheet.groups, sheet.pots]
-    for number, (association, code) in sorted(sheet.teams.items()):
-        words += ["T", number, association, code]
-    for a, b in sheet.pairs:
-        words += ["X", a, b]
-    for association, cap in sorted(sheet.caps.items()):
-        words += ["C", association, cap]
-    for number, bits in sorted(sheet.bars.items()):
-        words += ["B", number, bits]
-    for seed in sheet.seeds:
-        words += ["U", seed]
-    for pot, order in sorted(sheet.orders.items()):
-        words += ["S", pot, *order]
-    return " ".join(str(word) for word in words)
+    parts = [["ok", sheet.groups, sheet.pots]]
+    parts += [["T", number, *entry] for number, entry in sorted(sheet.teams.items())]
+    parts += [["X", a, b] for a, b in sheet.pairs]
+    parts += [["C", *cap] for cap in sorted(sheet.caps.items())]
+    parts += [["B", *bars] for bars in sorted(sheet.bars.items())]
+    parts += [["U", seed] for seed in sheet.seeds]
+    parts += [["S", pot, *order] for pot, order in sorted(sheet.orders.items())]
+    return ", ".join(" ".join(str(word) for word in part) for part in parts)
 
 
 def answer(sheet, form):

@@ -25,7 +25,7 @@ impl Layer {
     }
 }
 
-// A refusal: its number within its layer, and where it came about.
+// A refusal as every layer tells it: the layer that refused, the refusal's number, and where it came about.
 #[derive(Clone, Copy, PartialEq, Eq, Debug)]
 pub struct Fault {
     pub layer: Layer,

@@ -27,7 +27,7 @@ fn write_teams<W: fmt::Write>(f: &mut Formatter<W>, sheet: &Sheet) -> fmt::Resul
     for team in 0..96usize {
         if let Some(entrant) = sheet.teams[team] {
             let association = entrant.association.unwrap_or(0);
-            write!(f, " T {team} {association} {}", Code(entrant.code))?;
+            write!(f, ", T {team} {association} {}", Code(entrant.code))?;
         }
     }
     Ok(())
@@ -35,7 +35,7 @@ fn write_teams<W: fmt::Write>(f: &mut Formatter<W>, sheet: &Sheet) -> fmt::Resul
 
 fn write_pairs<W: fmt::Write>(f: &mut Formatter<W>, sheet: &Sheet) -> fmt::Result {
     for (first, second) in sheet.pairs.iter().take(sheet.listed) {
-        write!(f, " X {first} {second}")?;
+        write!(f, ", X {first} {second}")?;
     }
     Ok(())
 }
@@ -43,7 +43,7 @@ fn write_pairs<W: fmt::Write>(f: &mut Formatter<W>, sheet: &Sheet) -> fmt::Resul
 fn write_caps<W: fmt::Write>(f: &mut Formatter<W>, sheet: &Sheet) -> fmt::Result {
     for association in 1..65usize {
         if let Some(most) = sheet.caps[association] {
-            write!(f, " C {association} {most}")?;
+            write!(f, ", C {association} {most}")?;
         }
     }
     Ok(())
@@ -52,7 +52,7 @@ fn write_caps<W: fmt::Write>(f: &mut Formatter<W>, sheet: &Sheet) -> fmt::Result
 fn write_bars<W: fmt::Write>(f: &mut Formatter<W>, sheet: &Sheet) -> fmt::Result {
     for team in 0..96usize {
         if let Some(groups) = sheet.bars[team] {
-            write!(f, " B {team} {groups}")?;
+            write!(f, ", B {team} {groups}")?;
         }
     }
     Ok(())
@@ -61,12 +61,12 @@ fn write_bars<W: fmt::Write>(f: &mut Formatter<W>, sheet: &Sheet) -> fmt::Result
 // The seed, and the script of each pot that has one.
 fn write_source<W: fmt::Write>(f: &mut Formatter<W>, sheet: &Sheet) -> fmt::Result {
     if let Some(seed) = sheet.seed {
-        write!(f, " U {seed}")?;
+        write!(f, ", U {seed}")?;
     }
-    for pot in 0..6usize {
-        if let Some(order) = sheet.scripts[pot] {
-            write!(f, " S {pot}")?;
-            write_order(f, order, sheet.shape.groups)?;
+    for pot in 0..6u8 {
+        if let Some(order) = sheet.scripts[pot as usize] {
+            write!(f, ", S {pot}")?;
+            write_order(f, order, sheet.shape.balls(pot))?;
         }
     }
     Ok(())

@@ -147,7 +147,7 @@ fn write_order<W: fmt::Write>(
     order: [u8; 16],
 ) -> fmt::Result {
     write!(f, "  pot {}:", pot.saturating_add(1))?;
-    for ball in order.iter().take(usize::from(sheet.shape.groups)) {
+    for ball in order.iter().take(usize::from(sheet.shape.balls(pot))) {
         let team = pot.saturating_mul(16).saturating_add(*ball);
         write!(f, " {}", Code(sheet.code(team)))?;
     }
