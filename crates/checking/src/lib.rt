@@ -2,9 +2,14 @@
 ghost use mathlib.Core.Path.{_≡_};
 ghost use Rattle.reading.specs.Reading.{reading};
 ghost use Rattle.checking.specs.Checking.{told};
+
+mod refusal;
+
 use faults::Fault;
 use reading::read;
 use records::SheetFaultRaised;
+pub use refusal::Refusal;
+pub use refusal::RefusalDisplay;
 use shapes::Shape;
 use sheets::Sheet;
 

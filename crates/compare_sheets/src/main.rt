@@ -1,13 +1,13 @@
 // Answers cases: a line of standard input is a sheet in base 16, its answer a line or a whole listing.
 ghost use Prim.Native.Nat.{_<_};
 ghost use Rattle.std.specs.Options.{Cases as BySome};
+use checking::Refusal;
+use checking::RefusalDisplay;
 use checking::checked;
 use listing::Line;
 use listing::LineDisplay;
 use listing::Listing;
 use listing::ListingDisplay;
-use listing::Refusal;
-use listing::RefusalDisplay;
 use std::alloc::AllocError;
 use std::alloc::Global;
 use std::io;

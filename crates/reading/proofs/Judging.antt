@@ -9,13 +9,14 @@ use lib.Dec.{leb, ltb, eqb}
 use lib.ListN.{length, getD}
 use Rattle.std.specs.Options.{isSome}
 use Rattle.std.specs.Orderings.{Decides}
-use Rattle.std.proofs.shelf.Tests.{true≢false, cases-lt, cond-true, lt-ltb}
+use Rattle.std.proofs.shelf.Tests.{true≢false, cases-lt, cases-order, cond-true, lt-ltb}
 use Rattle.std.proofs.shelf.Ways.{tells, decides-at, decides-like, decides-not, decides-and, decides-or, decides-ltb, decides-eqb}
 use Rattle.std.specs.declared.option.Option.{Option}
 use Rattle.std.specs.declared.option.Option.the-variants.{Some, None}
 use Rattle.shapes.specs.declared.Shape.{Shape}
 use Rattle.shapes.specs.Teams.{Sized, ballsOf, HasTeam, hasTeam}
 use Rattle.shapes.proofs.Balls.{ball-number, balls-few}
+use Rattle.shapes.proofs.Pigeons.{onto}
 use Rattle.records.specs.declared.item.Record.{Record}
 use Rattle.records.specs.declared.item.Record.the-variants.{Shape as ShapeOf, Team, Pair, Cap, Bars, Seed, Script, End}
 use Rattle.sheets.specs.declared.sheet.Sheet.{Sheet}
@@ -161,14 +162,33 @@ decides-place balls o i =
     ))
     (cases-lt i balls)
 
-decides-order : (balls : ℕ) (o : List ℕ) → balls ≤ 16 → Decides (isOrder balls o) (OrderOf balls o)
-decides-order balls o few =
-    decides-like (isOrder balls o)
-    (λ h. record {
-      ball = λ i b. h i (omega arith) .0 b .0;
+-- each place in order
+abbrev AllInPlace : ℕ → List ℕ → Type 0
+AllInPlace balls o = (i : ℕ) → i < 16 → InPlace balls o i
+
+apart-places : (balls : ℕ) (o : List ℕ) → balls ≤ 16 → AllInPlace balls o → (i j : ℕ) → i < balls → j < balls → getD o i 0 ≡ getD o j 0 → i ≡ j
+apart-places balls o few h i j bi bj e =
+    elim (cases-order i j) [
+      | inl same ↦ same
+      | inr rest ↦ elim rest [
+        | inl l ↦ absurd (h j (omega arith) .0 bj .1 i l e)
+        | inr l ↦ absurd (h i (omega arith) .0 bi .1 j l (sym e))
+      ]
+    ]
+
+order-from : (balls : ℕ) (o : List ℕ) → balls ≤ 16 → AllInPlace balls o → OrderOf balls o
+order-from balls o few h =
+    let ball : (i : ℕ) → i < balls → getD o i 0 < balls = λ i b. h i (omega arith) .0 b .0 in
+    record {
+      ball = ball;
+      each-ball = onto balls (λ i. getD o i 0) ball (apart-places balls o few h);
       once = λ i j b k e. h i (omega arith) .0 b .1 j k e;
       rest = λ i g l. h i l .1 g;
-    })
+    }
+
+decides-order : (balls : ℕ) (o : List ℕ) → balls ≤ 16 → Decides (isOrder balls o) (OrderOf balls o)
+decides-order balls o few =
+    decides-like (isOrder balls o) (order-from balls o few)
     (λ p i l. (λ b. (p .ball i b, λ j k e. p .once i j b k e), λ g. p .rest i g l))
     (decides-all (inPlace balls o) (InPlace balls o) (decides-place balls o) 16)
 

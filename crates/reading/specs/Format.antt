@@ -156,9 +156,10 @@ said sh rs = record {
 abbrev pub Capital : ℕ → Type 0
 Capital x = (65 ≤ x) × (x ≤ 90)
 
--- each of the first so many places has a ball of the pot, no two the same, and 255 stands behind them
+-- the first places, as many as the pot has balls, have each ball once, and 255 stands behind them
 pub record OrderOf (balls : ℕ) (order : List ℕ) : Type 0 where
   pub ball : (i : ℕ) → i < balls → getD order i 0 < balls
+  pub each-ball : (b : ℕ) → b < balls → (i : ℕ) × (i < balls) × (getD order i 0 ≡ b)
   pub once : (i j : ℕ) → i < balls → j < i → getD order j 0 ≡ getD order i 0 → ⊥
   pub rest : (i : ℕ) → balls ≤ i → i < 16 → getD order i 0 ≡ 255
 

@@ -1,11 +1,11 @@
 // Tells what the sheet on standard input says, or why it is refused.
 ghost use Prim.Native.Nat.{_≤_};
 ghost use Rattle.std.specs.Vec.{made};
+use checking::Refusal;
+use checking::RefusalDisplay;
 use checking::checked;
 use listing::Listing;
 use listing::ListingDisplay;
-use listing::Refusal;
-use listing::RefusalDisplay;
 use std::io;
 use std::io::ErrorKind;
 use std::io::Read;

@@ -2,8 +2,8 @@ use mathlib.Core.Path.{_≡_, _∙_}
 use native.Mathlib.Omega.{arith}
 use lib.ListN.{length}
 use Rattle.faults.specs.Text.{lineOf}
-use Rattle.listing.proofs.Fronts.{Stands, stands}
-use Rattle.listing.proofs.refusal.write_line.Needs as need
+use Rattle.checking.proofs.Fronts.{Stands, stands}
+use Rattle.checking.proofs.refusal.write_line.Needs as need
 
 pub unreachable-requires : need.unreachable-requires
 unreachable-requires c κs =
