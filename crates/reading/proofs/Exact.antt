@@ -7,7 +7,7 @@ use Prim.Native.Nat.{ℕ, zero, suc, _+_, _-_, _<_, _≤_}
 use native.Mathlib.Omega.{arith}
 use lib.ListN.{length, take, drop}
 use Rattle.std.specs.Orderings.{Decides}
-use Rattle.std.proofs.shelf.Lists.{append-assoc, append-nil, length-append, length-drop, take-append-drop, drop-at, nil-from-length}
+use Rattle.std.proofs.shelf.Lists.{append-assoc, length-append, length-drop, take-append-drop, drop-at, nil-from-length}
 use Rattle.std.proofs.shelf.Tests.{true≢false, cases-lt, cond-true, cond-false, lt-ltb, le-ltb}
 use Rattle.std.proofs.shelf.Ways.{tells}
 use Rattle.std.specs.declared.option.Option.the-variants.{Some, None}
@@ -24,8 +24,8 @@ use Rattle.records.specs.Forms.{Form, sizeOf, decoded}
 use Rattle.records.specs.Refusals.{fault}
 use Rattle.sheets.specs.declared.sheet.Sheet.{Sheet}
 use Rattle.sheets.specs.Taking.{blank, verdict, taken, isWhole}
-use Rattle.reading.specs.Reading.{bind, started, shaped, opened, closed, atEnd, going, reading, answered, filled}
-use Rattle.reading.specs.Format.{Spelt, Front, Unknown, Short, said, IsShape, Inner, Next, Kept, Whole, Begun, Accepted, FailsFirst, Fails, beyond, FailsLater, Refused, Exact}
+use Rattle.reading.specs.Reading.{bind, started, shaped, opened, closed, going, reading}
+use Rattle.reading.specs.Format.{Front, said, IsShape, Next, Whole, Begun, Accepted, FailsFirst, Fails, beyond, Refused, Exact}
 use Rattle.reading.proofs.Going.{turn, not-end, size-some, Sofar, start, start-err, record-err, put-err, put-more, ended}
 use Rattle.reading.proofs.Fronts.{form-of, front-of, form-size, reads, end-at, unknown, short, no-record}
 use Rattle.reading.proofs.Saying.{said-none, said-more}

@@ -1,8 +1,7 @@
 -- One record more, in what the records from a place on make of a sheet record.
-use mathlib.Core.Path.{_≡_, refl, sym, ap, subst, _∙_}
-use mathlib.Core.Bool.{Bool, true, false, cond, _&&_}
+use mathlib.Core.Path.{_≡_, refl, sym, ap, _∙_}
 use mathlib.Core.List.{List, [], _∷_}
-use Prim.Native.Nat.{ℕ, zero, suc, _+_, _-_, _<_, _≤_}
+use Prim.Native.Nat.{ℕ, zero, suc, _+_, _-_, _≤_}
 use native.Mathlib.Omega.{arith}
 use lib.ListN.{length, drop, length-drop}
 use lib.Dec.{lit≤}
@@ -16,7 +15,7 @@ use Rattle.records.specs.declared.item.Record.the-variants.{Shape as ShapeOf, T
 use Rattle.records.specs.Forms.{decoded, sizeOf}
 use Rattle.sheets.specs.declared.sheet.Sheet.{Sheet}
 use Rattle.sheets.specs.Taking.{verdict, taken}
-use Rattle.reading.specs.Reading.{bind, started, shaped, opened, closed, atEnd, going, reading}
+use Rattle.reading.specs.Reading.{bind, shaped, opened, closed, atEnd, going, reading}
 
 -- a record that was read takes no more bytes than there are
 pub decoded-size : (bs : List ℕ) (at : ℕ) (r : Record) → decoded bs at ≡ Ok r → sizeOf r ≤ length bs

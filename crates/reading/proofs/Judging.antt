@@ -1,16 +1,16 @@
 -- The tests of a record, and the conditions that they decide.
-use mathlib.Core.Path.{_≡_, refl, sym, ap, subst, _∙_}
+use mathlib.Core.Path.{_≡_, refl, sym, ap, _∙_}
 use mathlib.Core.Bool.{Bool, true, false, cond, not, _&&_, _||_}
-use mathlib.Core.List.{List, [], _∷_, _++_}
+use mathlib.Core.List.{List}
 use mathlib.Core.Logic.{_≢_, _⊎_, inl, inr, ⊎-elim}
-use Prim.Native.Nat.{ℕ, zero, suc, _+_, _-_, _*_, _/_, _%_, _^_, _<_, _≤_}
+use Prim.Native.Nat.{ℕ, _+_, _-_, _*_, _<_, _≤_}
 use native.Mathlib.Omega.{arith}
-use lib.Dec.{leb, ltb, eqb}
+use lib.Dec.{ltb, eqb}
 use lib.ListN.{length, getD}
 use Rattle.std.specs.Options.{isSome}
 use Rattle.std.specs.Orderings.{Decides}
 use Rattle.std.proofs.shelf.Tests.{true≢false, cases-lt, cases-order, cond-true, lt-ltb}
-use Rattle.std.proofs.shelf.Ways.{tells, decides-at, decides-like, decides-not, decides-and, decides-or, decides-ltb, decides-eqb}
+use Rattle.std.proofs.shelf.Ways.{tells, decides-at, decides-like, decides-not, decides-and, decides-ltb, decides-eqb}
 use Rattle.std.specs.declared.option.Option.{Option}
 use Rattle.std.specs.declared.option.Option.the-variants.{Some, None}
 use Rattle.shapes.specs.declared.Shape.{Shape}
@@ -19,11 +19,8 @@ use Rattle.shapes.proofs.Balls.{ball-number, balls-few}
 use Rattle.shapes.proofs.Pigeons.{onto}
 use Rattle.records.specs.declared.item.Record.{Record}
 use Rattle.records.specs.declared.item.Record.the-variants.{Shape as ShapeOf, Team, Pair, Cap, Bars, Seed, Script, End}
-use Rattle.sheets.specs.declared.sheet.Sheet.{Sheet}
-use Rattle.sheets.specs.declared.sheet.Entrant.{Entrant}
 use Rattle.sheets.specs.Entrants.{codeIn, associationIn, codeOf, associationOf}
-use Rattle.sheets.specs.Below.{allBelow, anyBelow}
-use Rattle.sheets.specs.Taking.{isShape, fits, repeated, crowded, ordered, letters, barsFit, standsBefore, inPlace, isOrder, named, scripted, scriptedIn, allNamed, anyScript, allScripts, hasSource, isWhole}
+use Rattle.sheets.specs.Taking.{isShape, fits, repeated, crowded, ordered, barsFit, standsBefore, inPlace, isOrder, named, scripted, scriptedIn, allNamed, anyScript, allScripts, hasSource, isWhole}
 use Rattle.sheets.proofs.Scans.{decides-all, decides-any}
 use Rattle.reading.specs.Format.{said, found, teamIn, capIn, barsIn, seedIn, scriptIn, pairsIn, OrderOf, Fits, Fresh, Room, Ordered, IsShape, Whole, FromUrn, FromScripts}
 use Rattle.reading.proofs.Saying.{getD-each}

@@ -1,16 +1,14 @@
 -- One record more, in what records say.
-use mathlib.Core.Path.{_≡_, refl, sym, ap, subst, _∙_}
-use mathlib.Core.Bool.{Bool, true, false, cond}
-use mathlib.Core.List.{List, [], _∷_, _++_, map}
-use mathlib.Core.Logic.{_≢_, _⊎_, inl, inr, ⊎-elim}
-use Prim.Native.Nat.{ℕ, zero, suc, _+_, _-_, _*_, _<_, _≤_}
+use mathlib.Core.Path.{_≡_, refl, sym, ap, _∙_}
+use mathlib.Core.Bool.{cond}
+use mathlib.Core.List.{List, [], _∷_, _++_}
+use mathlib.Core.Logic.{_≢_, _⊎_, ⊎-elim}
+use Prim.Native.Nat.{ℕ, suc, _+_, _-_, _*_, _<_}
 use native.Mathlib.Omega.{arith}
-use lib.Dec.{leb, eqb}
 use lib.ListN.{length, getD, set, replicate}
-use Rattle.std.proofs.shelf.Lists.{append-assoc, same-lists, length-set, length-replicate, getD-replicate, getD-set-same, getD-set-other, set-append-right, replicate-more, length-append}
+use Rattle.std.proofs.shelf.Lists.{append-assoc, length-set, length-replicate, getD-replicate, getD-set-same, getD-set-other, set-append-right, length-append}
 use Rattle.std.proofs.shelf.Tests.{cases-eq, eq-eqb, ne-eqb}
 use Rattle.std.proofs.shelf.Counted.{length-map-counting, getD-map-counting, fill-by-all}
-use Rattle.std.specs.Iters.{counting}
 use Rattle.std.specs.declared.option.Option.{Option}
 use Rattle.std.specs.declared.option.Option.the-variants.{Some, None}
 use Rattle.shapes.specs.declared.Shape.{Shape}
@@ -18,11 +16,10 @@ use Rattle.shapes.specs.Teams.{Sized}
 use Rattle.shapes.proofs.Balls.{ball-number}
 use Rattle.records.specs.declared.item.Record.{Record}
 use Rattle.records.specs.declared.item.Record.the-variants.{Shape as ShapeOf, Team, Pair, Cap, Bars, Seed, Script, End}
-use Rattle.sheets.specs.declared.sheet.Sheet.{Sheet}
 use Rattle.sheets.specs.declared.sheet.Entrant.{Entrant}
 use Rattle.sheets.specs.Entrants.{entrant}
-use Rattle.sheets.specs.Taking.{blank, taken, withTeam, withPair, withCap, withBars, withSeed, withScript}
-use Rattle.reading.specs.Format.{each, said, found, for, orElse, teamIn, capIn, barsIn, seedIn, scriptIn, pairsIn, Fits, Room}
+use Rattle.sheets.specs.Taking.{blank, taken}
+use Rattle.reading.specs.Format.{each, said, found, for, orElse, teamIn, capIn, barsIn, scriptIn, pairsIn, Fits, Room}
 
 module _ {X : Type 0} where
   pub length-each : (n : ℕ) (f : ℕ → X) → length (each n f) ≡ n

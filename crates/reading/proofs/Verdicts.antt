@@ -1,8 +1,7 @@
 -- The answer to a record after others, and the conditions that it goes by.
 use mathlib.Core.Path.{_≡_, refl, sym, ap, subst, _∙_}
 use mathlib.Core.Bool.{Bool, true, false, cond, not}
-use mathlib.Core.List.{List, [], _∷_, _++_}
-use mathlib.Core.Logic.{_⊎_, inl, inr, ⊎-elim}
+use mathlib.Core.List.{List}
 use Prim.Native.Nat.{ℕ, _+_}
 use native.Mathlib.Omega.{arith}
 use Rattle.std.specs.Orderings.{Decides}
@@ -12,13 +11,12 @@ use Rattle.std.specs.declared.result.Result.the-variants.{Ok, Err}
 use Rattle.shapes.specs.declared.Shape.{Shape}
 use Rattle.shapes.specs.Teams.{Sized}
 use Rattle.records.specs.declared.refusal.SheetFault.{SheetFault}
-use Rattle.records.specs.declared.refusal.SheetRefusal.{SheetRefusal}
-use Rattle.records.specs.declared.refusal.SheetRefusal.the-variants.{UnknownKind, CutShort, ShapeMisplaced, OutOfRange, Repeated, TooManyPairs, NotAnOrder, BytesAfterEnd, Incomplete}
+use Rattle.records.specs.declared.refusal.SheetRefusal.the-variants.{ShapeMisplaced, OutOfRange, Repeated, TooManyPairs, NotAnOrder}
 use Rattle.records.specs.declared.item.Record.{Record}
 use Rattle.records.specs.declared.item.Record.the-variants.{End}
 use Rattle.records.specs.Refusals.{fault}
 use Rattle.sheets.specs.Taking.{isShape, fits, repeated, crowded, ordered, verdict}
-use Rattle.reading.specs.Format.{Front, said, Fits, Fresh, Room, Ordered, IsShape, Inner, Next, Fails, beyond}
+use Rattle.reading.specs.Format.{Front, said, Fits, Fresh, Room, Ordered, IsShape, Next, Fails, beyond}
 use Rattle.reading.proofs.Judging.{shape-said, decides-shape, decides-fits, decides-fresh, decides-room, decides-ordered}
 
 -- five tests in their order

@@ -1,7 +1,7 @@
 // What one record after the first makes of the sheet record.
 ghost use mathlib.Core.Path.{_≡_};
 ghost use mathlib.Core.Bool.{cond};
-ghost use Prim.Native.Nat.{_<_, _≤_};
+ghost use Prim.Native.Nat.{_<_};
 ghost use Rattle.std.specs.Results.{isOk};
 ghost use Rattle.records.specs.Refusals.{fault};
 ghost use lib.Dec.{leb};

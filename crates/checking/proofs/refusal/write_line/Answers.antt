@@ -2,7 +2,7 @@ use mathlib.Core.Path.{_≡_, _∙_}
 use native.Mathlib.Omega.{arith}
 use lib.ListN.{length}
 use Rattle.faults.specs.Text.{lineOf}
-use Rattle.checking.proofs.Fronts.{Stands, stands}
+use Rattle.checking.proofs.Fronts.{stands}
 use Rattle.checking.proofs.refusal.write_line.Needs as need
 
 pub unreachable-requires : need.unreachable-requires

@@ -1,6 +1,5 @@
 use mathlib.Core.Path.{sym, _∙_}
 use native.Mathlib.Omega.{arith}
-use Rattle.std.proofs.shelf.Ways.{tells}
 use Rattle.sheets.proofs.Scans.{all-none, all-more, all-not}
 use Rattle.sheets.proofs.order.is_order.Needs as need
 
