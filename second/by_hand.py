@@ -71,7 +71,8 @@ def main():
             wrong += 1
             print(f"{what}: by hand '{expected}', by program '{answer}'")
     print(f"{len(CASES)} sheets worked out by hand, {wrong} answered otherwise")
-    sys.exit(1 if wrong else 0)
+    sys.exit(1 if wrong or not CASES else 0)
 
 
-main()
+if __name__ == "__main__":
+    main()

@@ -10,7 +10,8 @@ and those parts of README.md and docs/ that stand behind one of these comments:
     <!-- answer: SHEET -->     the next fenced block is its one-line answer
     <!-- bytes: SHEET -->      the next table gives an offset and then the bytes there, all of the file's
 
-A number of cases that a document tells, as in "1,234 cases", must be the number of cases.
+A number of cases that a document tells, as in "1,234 cases", must be the number of cases. The marks that have to be
+there are in NEEDED; a comment that is no such mark is a fault.
 """
 import glob
 import os
@@ -23,6 +24,15 @@ import sheets
 
 TOP = os.path.dirname(os.path.dirname(os.path.abspath(__file__)))
 MARK = re.compile(r"^<!-- (listing|answer|bytes): (\S+) -->$")
+NEEDED = {
+    ("listing", "sheets/worked.sheet"),
+    ("listing", "sheets/one_group.sheet"),
+    ("listing", "sheets/cup.sheet"),
+    ("listing", "sheets/cup_damaged.sheet"),
+    ("answer", "sheets/worked.sheet"),
+    ("bytes", "sheets/worked.sheet"),
+    ("bytes", "sheets/cup.sheet"),
+}
 
 
 def stored(path):
@@ -44,8 +54,8 @@ def sample_sheets():
         for name in os.listdir(directory):
             with open(os.path.join(directory, name), "rb") as file:
                 made["sheets/" + name] = file.read()
-    for name in os.listdir(os.path.join(TOP, "sheets")):
-        made.setdefault("sheets/" + name, None)
+    for path in glob.glob(os.path.join(TOP, "sheets", "*")):
+        made.setdefault("sheets/" + os.path.basename(path), None)
     return made
 
 
@@ -75,8 +85,10 @@ def differing_files(made):
 # Documents. ----------------------------------------------------------------------------------------------------
 
 def fenced(lines, at):
-    """The lines of the next fenced block, as bytes."""
-    start = next(k for k in range(at, len(lines)) if lines[k].startswith("```"))
+    """The lines of the fenced block that begins within two lines, as bytes, or None."""
+    start = next((k for k in range(at, min(at + 2, len(lines))) if lines[k].startswith("```")), None)
+    if start is None:
+        return None
     end = next(k for k in range(start + 1, len(lines)) if lines[k].startswith("```"))
     return "".join(line + "\n" for line in lines[start + 1:end]).encode("utf-8")
 
@@ -104,15 +116,22 @@ def is_so(what, sheet, lines, at):
     return table_bytes(lines, at) == sheet
 
 
-def document_faults(path, count):
-    lines = stored(path).decode("utf-8").split("\n")
+def document_faults(path, count, seen):
+    """What is wrong in a document. Adds to `seen` each mark, and the word "cases" where the number of cases is told."""
+    text = stored(path).decode("utf-8")
+    lines = text.split("\n")
     for at, line in enumerate(lines):
         mark = MARK.match(line)
-        if mark and not is_so(mark.group(1), stored(mark.group(2)), lines, at + 1):
-            yield f"{path}:{at + 1}: not the {mark.group(1)} of {mark.group(2)}"
-        for told in re.findall(r"\b(\d+(?:,\d{3})*) cases\b", line):
-            if told.replace(",", "") != str(count):
-                yield f"{path}:{at + 1}: tells of {told} cases, and there are {count}"
+        if mark:
+            seen.add(mark.groups())
+            if not is_so(mark.group(1), stored(mark.group(2)), lines, at + 1):
+                yield f"{path}:{at + 1}: not the {mark.group(1)} of {mark.group(2)}"
+        elif line.lstrip().startswith("<!--"):
+            yield f"{path}:{at + 1}: a comment that is no mark"
+    for told in re.findall(r"\b(\d+(?:,\d{3})*)\s+cases\b", text):
+        seen.add("cases")
+        if told.replace(",", "") != str(count):
+            yield f"{path}: tells of {told} cases, and there are {count}"
 
 
 def documents():
@@ -123,8 +142,12 @@ def main():
     lines = cases.all_cases()
     made = {**sample_sheets(), **program_files(lines)}
     faults = list(differing_files(made))
+    seen = set()
     for path in documents():
-        faults += document_faults(path, len(lines))
+        faults += document_faults(path, len(lines), seen)
+    faults += [f"no document has the {what} of {sheet}" for what, sheet in sorted(NEEDED - seen)]
+    if "cases" not in seen:
+        faults.append("no document tells the number of cases")
     for fault in faults:
         print(fault)
     print(f"{len(made)} stored files and {len(documents())} documents compared over {len(lines)} cases, {len(faults)} faults")

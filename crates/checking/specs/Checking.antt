@@ -7,6 +7,6 @@ use Rattle.records.specs.Refusals.{raised}
 use Rattle.sheets.specs.declared.sheet.Sheet.{Sheet}
 
 -- the sheet record as it was read, or the fault as the layers above know it
-abbrev pub told : Result Sheet SheetFault → Result Sheet Fault
-told (Ok s) = Ok s
-told (Err f) = Err (raised f)
+abbrev pub toldAbove : Result Sheet SheetFault → Result Sheet Fault
+toldAbove (Ok s) = Ok s
+toldAbove (Err f) = Err (raised f)

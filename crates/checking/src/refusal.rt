@@ -32,7 +32,7 @@ pub impl fmt::Display for Refusal as RefusalDisplay {
     fn fmt<W: fmt::Write>(&self, f: &mut fmt::Formatter<W>) -> fmt::Result {
         let mut line = [0; ROOM];
         let length = write_line(&mut line, self.0);
-        // The line is ASCII, so it is text.
+        // The line is ASCII, so this does not fail; no contract says so.
         let Ok(text) = str::from_utf8(&line[0..length]) else {
             return Err(fmt::Error);
         };

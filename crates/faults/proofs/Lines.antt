@@ -1,11 +1,10 @@
 -- How long the line of a refusal is, for callers that keep room for it.
 use mathlib.Core.Path.{_≡_}
-use mathlib.Core.List.{List, [], _∷_, _++_}
+use mathlib.Core.List.{List}
 use Prim.Native.Nat.{ℕ, _+_, _^_, _<_, _≤_}
 use native.Mathlib.Omega.{arith}
-use lib.Chars.{codes}
 use lib.ListN.{length, length-append}
-use Rattle.std.proofs.shelf.Decimals.{decimal-digit, length-decimal-le}
+use Rattle.std.proofs.shelf.Decimals.{length-decimal-le}
 use Rattle.std.proofs.shelf.Ways.{tells}
 use Rattle.std.specs.Written.{decimal}
 use Rattle.std.specs.declared.result.Result.the-variants.{Ok}
@@ -41,8 +40,3 @@ pub line-written : (bs : List ℕ) (at : ℕ) (f : Fault) → f .number < 256 �
 line-written bs at f hn hp room =
     let short = line-short f hn hp in
     (grind (arith, tells), grind (arith, tells))
-
--- as a reader sees it
-pub line-seen : refusedText 1 2 0 ≡ codes "refused 1 2 0" ++ (10 ∷ [])
-unfolding refusedText
-line-seen = simp (decimal-digit 1 (omega arith), decimal-digit 2 (omega arith), decimal-digit 0 (omega arith))

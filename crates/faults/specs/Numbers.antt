@@ -1,4 +1,4 @@
--- The numbers by which layers and refusals are written.
+-- The numbers by which layers and refusals are written. Assumes nothing.
 use Prim.Native.Nat.{ℕ}
 use Rattle.faults.specs.declared.Layer.{Layer}
 use Rattle.faults.specs.declared.Layer.the-variants.{Reading, Draw, Text}

@@ -1,4 +1,4 @@
--- The line of a refusal, and what writing a text leaves of the caller's bytes.
+-- The line of a refusal, and what writing a text leaves of the caller's bytes. Assumes nothing.
 use mathlib.Core.Bool.{Bool, cond}
 use mathlib.Core.List.{List, [], _∷_, _++_}
 use Prim.Native.Nat.{ℕ, _+_}

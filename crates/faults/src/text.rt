@@ -78,5 +78,6 @@ pub(crate) fn line_length(fault: Fault) -> usize
     let numbers = digits(fault.layer.number() as usize)
         + digits(fault.number as usize)
         + digits(fault.place);
+    // the word, three spaces and byte 10 besides
     11 + numbers
 }

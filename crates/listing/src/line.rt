@@ -51,8 +51,8 @@ fn write_caps<W: fmt::Write>(f: &mut Formatter<W>, sheet: &Sheet) -> fmt::Result
 
 fn write_bars<W: fmt::Write>(f: &mut Formatter<W>, sheet: &Sheet) -> fmt::Result {
     for team in 0..96usize {
-        if let Some(groups) = sheet.bars[team] {
-            write!(f, ", B {team} {groups}")?;
+        if let Some(barred) = sheet.bars[team] {
+            write!(f, ", B {team} {barred}")?;
         }
     }
     Ok(())

@@ -1,4 +1,5 @@
 // The listing of a sheet. Any sheet record can be listed, also one that no reading filled.
+ghost use Prim.Native.Nat.{_<_};
 use crate::words::Code;
 use crate::words::CodeDisplay;
 use crate::words::Count;
@@ -93,9 +94,9 @@ fn any_cap(sheet: &Sheet) -> bool {
 fn write_bars<W: fmt::Write>(f: &mut Formatter<W>, sheet: &Sheet) -> fmt::Result {
     write_heading(f, "Bars", any_bars(sheet))?;
     for team in 0..96u8 {
-        if let Some(groups) = sheet.bars[team as usize] {
+        if let Some(barred) = sheet.bars[team as usize] {
             write!(f, "  {team:>2} {}", Code(sheet.code(team)))?;
-            write_barred(f, groups)?;
+            write_barred(f, barred)?;
         }
     }
     Ok(())
@@ -111,13 +112,13 @@ fn any_bars(sheet: &Sheet) -> bool {
 }
 
 // The rest of a team's line: the letter of each group whose bit is set.
-fn write_barred<W: fmt::Write>(f: &mut Formatter<W>, groups: u16) -> fmt::Result {
-    if groups == 0 {
+fn write_barred<W: fmt::Write>(f: &mut Formatter<W>, barred: u16) -> fmt::Result {
+    if barred == 0 {
         return writeln!(f, " in any group");
     }
     let mut first = true;
     for group in 0..16u8 {
-        if groups >> group & 1 == 1 {
+        if barred >> group & 1 == 1 {
             write!(f, "{}", if first { " not in " } else { ", " })?;
             write!(f, "{}", Group(group))?;
             first = false;
@@ -139,16 +140,18 @@ fn write_source<W: fmt::Write>(f: &mut Formatter<W>, sheet: &Sheet) -> fmt::Resu
     Ok(())
 }
 
-// The teams of a pot in the order of their balls; `---` for a ball past the numbers of teams.
+// The teams of a pot in the order of their balls; `---` where the number has no T.
 fn write_order<W: fmt::Write>(
     f: &mut Formatter<W>,
     sheet: &Sheet,
     pot: u8,
     order: [u8; 16],
-) -> fmt::Result {
-    write!(f, "  pot {}:", pot.saturating_add(1))?;
+) -> fmt::Result
+    requires { ⌜ pot < 6 ⌝ }
+{
+    write!(f, "  pot {}:", pot + 1)?;
     for ball in order.iter().take(usize::from(sheet.shape.balls(pot))) {
-        let team = pot.saturating_mul(16).saturating_add(*ball);
+        let team = (16 * pot).saturating_add(*ball);
         write!(f, " {}", Code(sheet.code(team)))?;
     }
     writeln!(f)

@@ -1,7 +1,7 @@
 // How the numbers and bytes of a sheet record are written.
 use std::fmt;
 
-// A team's code. Any three bytes have a form, also those of a record that was never read.
+// A team's code. Any three bytes can be written, even those of a sheet record that no reading filled.
 #[derive(Clone, Copy)]
 pub(crate) struct Code(pub [u8; 3]);
 

@@ -1,4 +1,4 @@
--- A list in lent memory: of the memory m the first n places hold its entries, and the places behind them are unused.
+-- A list in lent memory: of the memory m the first n places hold its entries, and the places behind them are unused. Assumes nothing.
 use mathlib.Core.Bool.{cond}
 use mathlib.Core.List.{List}
 use Prim.Native.Nat.{ℕ, _+_}

@@ -21,7 +21,7 @@ impl ListRefusal {
     }
 }
 
-// The first `count` places of `memory` are the entries. The list writes to no other place but the next.
+// The first `count` places of `memory` are the entries. The list writes only to the place behind them.
 #[derive(Drop)]
 pub struct List<'a, T> {
     memory: &'a mut [T],

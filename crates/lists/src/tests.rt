@@ -17,10 +17,14 @@ fn memory_after_use() -> [u8; 4]
 }
 
 #[test]
-fn a_place_is_used_again() -> Result<(), Fail> {
-    check_eq(memory_after_use(), [7, 5, 3, 4])?;
+fn memory_of_no_places() -> Result<(), Fail> {
     let mut no_places: [u8; 0] = [];
     let mut list = List::new(&mut no_places);
     check_eq(list.add(1), Err(ListRefusal::Full))?;
     check_eq(list.take_off(), None)
+}
+
+#[test]
+fn a_place_is_used_again() -> Result<(), Fail> {
+    check_eq(memory_after_use(), [7, 5, 3, 4])
 }

@@ -8,7 +8,7 @@ use native.Mathlib.Omega.{arith}
 use lib.ListN.{length, take, drop}
 use Rattle.std.specs.Orderings.{Decides}
 use Rattle.std.proofs.shelf.Lists.{append-assoc, length-append, length-drop, take-append-drop, drop-at, nil-from-length}
-use Rattle.std.proofs.shelf.Tests.{true≢false, cases-lt, cond-true, cond-false, lt-ltb, le-ltb}
+use Rattle.std.proofs.shelf.Tests.{true≢false, cases-bool, cases-lt, cond-true, cond-false, lt-ltb, le-ltb}
 use Rattle.std.proofs.shelf.Ways.{tells}
 use Rattle.std.specs.declared.option.Option.the-variants.{Some, None}
 use Rattle.std.specs.declared.result.Result.{Result}
@@ -19,32 +19,39 @@ use Rattle.records.specs.declared.refusal.SheetFault.{SheetFault}
 use Rattle.records.specs.declared.refusal.SheetRefusal.{SheetRefusal}
 use Rattle.records.specs.declared.refusal.SheetRefusal.the-variants.{UnknownKind, CutShort, ShapeMisplaced, OutOfRange, Repeated, TooManyPairs, NotAnOrder, BytesAfterEnd, Incomplete}
 use Rattle.records.specs.declared.item.Record.{Record}
-use Rattle.records.specs.declared.item.Record.the-variants.{Shape as ShapeOf, Team, Pair, Cap, Bars, Seed, Script, End}
+use Rattle.records.specs.declared.item.Record.the-variants.{Shape as ShapeRecord, Team, Pair, Cap, Bars, Seed, Script, End}
 use Rattle.records.specs.Forms.{Form, sizeOf, decoded}
 use Rattle.records.specs.Refusals.{fault}
 use Rattle.sheets.specs.declared.sheet.Sheet.{Sheet}
-use Rattle.sheets.specs.Taking.{blank, verdict, taken, isWhole}
-use Rattle.reading.specs.Reading.{bind, started, shaped, opened, closed, going, reading}
+use Rattle.sheets.specs.Taking.{blank, isShape, verdict, taken, isWhole}
+use Rattle.reading.specs.Reading.{bind, atEnd, started, shaped, opened, closed, going, reading}
 use Rattle.reading.specs.Format.{Front, said, IsShape, Next, Whole, Begun, Accepted, FailsFirst, Fails, beyond, Refused, Exact}
 use Rattle.reading.proofs.Going.{turn, not-end, size-some, Sofar, start, start-err, record-err, put-err, put-more, ended}
 use Rattle.reading.proofs.Fronts.{form-of, front-of, form-size, reads, end-at, unknown, short, no-record}
 use Rattle.reading.proofs.Saying.{said-none, said-more}
-use Rattle.reading.proofs.Judging.{code-said, association-said, decides-whole}
-use Rattle.reading.proofs.Verdicts.{Says, judged, next-taken, shape-refused, range-refused, again-refused, room-refused, order-refused}
+use Rattle.reading.proofs.Judging.{decides-shape, code-said, association-said, decides-whole}
+use Rattle.reading.proofs.Verdicts.{Says, judged, no-to, next-taken, shape-refused, range-refused, again-refused, room-refused, order-refused}
 
 -- what an outcome of the reading says of the bytes
 abbrev pub Out : List ℕ → Result Sheet SheetFault → Type 0
 Out bs (Ok t) = Accepted bs t
 Out bs (Err f) = Refused bs f
 
+-- 1 at the end record, and 0 at any other
+abbrev ends : Record → ℕ
+ends r = atEnd r 1 0
+
+no-end : (r : Record) → ends r ≡ 0 → r ≡ End → ⊥
+no-end r h e = let k = ap ends e in omega arith
+
 end-or-not : (r : Record) → (r ≡ End) ⊎ (r ≡ End → ⊥)
-end-or-not (ShapeOf g p) = inr (λ e. let z : _≡_ {A = ℕ} 0 1 = cc in omega arith)
-end-or-not (Team pot ball a c) = inr (λ e. let z : _≡_ {A = ℕ} 0 1 = cc in omega arith)
-end-or-not (Pair a b) = inr (λ e. let z : _≡_ {A = ℕ} 0 1 = cc in omega arith)
-end-or-not (Cap a m) = inr (λ e. let z : _≡_ {A = ℕ} 0 1 = cc in omega arith)
-end-or-not (Bars n g) = inr (λ e. let z : _≡_ {A = ℕ} 0 1 = cc in omega arith)
-end-or-not (Seed x) = inr (λ e. let z : _≡_ {A = ℕ} 0 1 = cc in omega arith)
-end-or-not (Script pot o) = inr (λ e. let z : _≡_ {A = ℕ} 0 1 = cc in omega arith)
+end-or-not (ShapeRecord g p) = inr (no-end (ShapeRecord g p) refl)
+end-or-not (Team pot ball a c) = inr (no-end (Team pot ball a c) refl)
+end-or-not (Pair a b) = inr (no-end (Pair a b) refl)
+end-or-not (Cap a m) = inr (no-end (Cap a m) refl)
+end-or-not (Bars n g) = inr (no-end (Bars n g) refl)
+end-or-not (Seed x) = inr (no-end (Seed x) refl)
+end-or-not (Script pot o) = inr (no-end (Script pot o) refl)
 end-or-not End = inl refl
 
 closed-early : (s : Sheet) (at len : ℕ) → at + 1 < len → closed s at len ≡ Err (fault BytesAfterEnd (at + 1))
@@ -52,6 +59,19 @@ closed-early s at len h = cond-true _ _ _ (lt-ltb (at + 1) len h)
 
 closed-late : (s : Sheet) (at len : ℕ) → len ≤ at + 1 → closed s at len ≡ cond (isWhole s) (Ok tt) (Err (fault Incomplete at))
 closed-late s at len h = cond-false _ _ _ (le-ltb (at + 1) len h)
+
+ends-here : (rest : List ℕ) → Front End rest → length rest ≤ 1 → rest ≡ 90 ∷ []
+ends-here rest w l =
+    let e : rest ≡ 90 ∷ (w .1) = w .3 ∙ ap (λ o. o ++ w .1) (w .2) in
+    let n : length (w .1) ≡ 0 = omega (arith, ap length e) in
+    e ∙ ap (λ o. 90 ∷ o) (nil-from-length (w .1) n)
+
+some-byte : (rest after : List ℕ) → rest ≡ 90 ∷ after → 1 < length rest → (next : ℕ) × (tail : List ℕ) × (rest ≡ 90 ∷ next ∷ tail)
+some-byte rest [] e l = absurd (omega (arith, ap length e))
+some-byte rest (x ∷ after) e l = (x, after, e)
+
+ends-early : (rest : List ℕ) → Front End rest → 1 < length rest → (next : ℕ) × (tail : List ℕ) × (rest ≡ 90 ∷ next ∷ tail)
+ends-early rest w l = some-byte rest (w .1) (w .3 ∙ ap (λ o. o ++ w .1) (w .2)) l
 
 module _ (bs : List ℕ) (sh : Shape) where
   -- one record more
@@ -73,19 +93,6 @@ module _ (bs : List ℕ) (sh : Shape) where
   -- the records so far are in order, and the rest fails
   later : (rs : List Record) (at : ℕ) (rest : List ℕ) (f : SheetFault) → Begun bs sh rs at rest → Fails (f .refusal) sh rs rest → f .place ≡ at + beyond (f .refusal) → Refused bs f
   later rs at rest f b x p = inr (record { shape = sh; records = rs; place = at; rest = rest; begun = b; fails = x; at = p })
-
-  ends-here : (rest : List ℕ) → Front End rest → length rest ≤ 1 → rest ≡ 90 ∷ []
-  ends-here rest w l =
-      let e : rest ≡ 90 ∷ (w .1) = w .3 ∙ ap (λ o. o ++ w .1) (w .2) in
-      let n : length (w .1) ≡ 0 = omega (arith, ap length e) in
-      e ∙ ap (λ o. 90 ∷ o) (nil-from-length (w .1) n)
-
-  some-byte : (rest after : List ℕ) → rest ≡ 90 ∷ after → 1 < length rest → (next : ℕ) × (tail : List ℕ) × (rest ≡ 90 ∷ next ∷ tail)
-  some-byte rest [] e l = absurd (omega (arith, ap length e))
-  some-byte rest (x ∷ after) e l = (x, after, e)
-
-  ends-early : (rest : List ℕ) → Front End rest → 1 < length rest → (next : ℕ) × (tail : List ℕ) × (rest ≡ 90 ∷ next ∷ tail)
-  ends-early rest w l = some-byte rest (w .1) (w .3 ∙ ap (λ o. o ++ w .1) (w .2)) l
 
   -- at the end record
   by-whole : (rs : List Record) (at : ℕ) (rest : List ℕ) → Begun bs sh rs at rest → rest ≡ 90 ∷ [] → (b : Bool) → Decides b (Whole sh rs)
@@ -150,21 +157,31 @@ shape-of g p = record { groups = g; pots = p }
 abbrev rest-of : List ℕ → Result Sheet SheetFault → Result Sheet SheetFault
 rest-of bs o = bind o (λ s. going (length bs) s (drop 3 bs) 3 (length bs))
 
-first-shape : (bs : List ℕ) (g p : ℕ) → decoded bs 0 ≡ Ok (ShapeOf g p) → (b : Bool) → sized g p ≡ b
+first-cut : (bs : List ℕ) (g p : ℕ) → decoded bs 0 ≡ Ok (ShapeRecord g p) → bs ≡ 71 ∷ g ∷ p ∷ drop 3 bs
+first-cut bs g p d =
+    let own : take 3 bs ≡ 71 ∷ g ∷ p ∷ [] = form-of bs 0 (ShapeRecord g p) d in
+    sym (take-append-drop 3 bs) ∙ ap (λ l. l ++ drop 3 bs) own
+
+first-shape : (bs : List ℕ) (g p : ℕ) → decoded bs 0 ≡ Ok (ShapeRecord g p) → (b : Bool) → sized g p ≡ b
     → Out bs (rest-of bs (started (cond b (Some (shape-of g p)) None)))
 first-shape bs g p d true e =
-    let f : take 3 bs ≡ 71 ∷ g ∷ p ∷ [] = form-of bs 0 (ShapeOf g p) d in
-    let cut : bs ≡ 71 ∷ g ∷ p ∷ drop 3 bs = sym (take-append-drop 3 bs) ∙ ap (λ l. l ++ drop 3 bs) f in
-    let b : Begun bs (shape-of g p) [] 3 (drop 3 bs) = record { sized = sized-from g p e; kept = tt; body = []; spelt = refl; bytes = cut; at = refl } in
+    let b : Begun bs (shape-of g p) [] 3 (drop 3 bs) = record { sized = sized-from g p e; kept = tt; body = []; spelt = refl; bytes = first-cut bs g p d; at = refl } in
     let k : length (drop 3 bs) ≤ length bs = simp length-drop (omega arith) in
     subst (λ s. Out bs (going (length bs) s (drop 3 bs) 3 (length bs))) (sym (said-none (shape-of g p))) (goes bs (shape-of g p) (length bs) [] 3 (drop 3 bs) b k)
-first-shape bs g p d false e =
-    let f : take 3 bs ≡ 71 ∷ g ∷ p ∷ [] = form-of bs 0 (ShapeOf g p) d in
-    let cut : bs ≡ 71 ∷ g ∷ p ∷ drop 3 bs = sym (take-append-drop 3 bs) ∙ ap (λ l. l ++ drop 3 bs) f in
-    inl ((g, p, drop 3 bs, cut, λ z. true≢false (sym (sized-to g p z) ∙ e)), refl)
+first-shape bs g p d false e = inl ((g, p, drop 3 bs, first-cut bs g p d, λ z. true≢false (sym (sized-to g p z) ∙ e)), refl)
 
-first-other : (bs : List ℕ) (r : Record) → decoded bs 0 ≡ Ok r → (IsShape r → ⊥) → Refused bs (fault ShapeMisplaced 0)
-first-other bs r d other = inl ((r, front-of bs 0 r d, other), refl)
+misplaced : (r : Record) → (IsShape r → ⊥) → shaped r ≡ Err (fault ShapeMisplaced 0)
+misplaced (ShapeRecord g p) h = absurd (h (g, p, refl))
+misplaced (Team pot ball a c) h = refl
+misplaced (Pair a b) h = refl
+misplaced (Cap a m) h = refl
+misplaced (Bars n g) h = refl
+misplaced (Seed x) h = refl
+misplaced (Script pot o) h = refl
+misplaced End h = refl
+
+shape-or-not : (r : Record) → IsShape r ⊎ (IsShape r → ⊥)
+shape-or-not r = ⊎-elim (λ t. inl (decides-shape r .0 t)) (λ f. inr (λ w. true≢false (sym (decides-shape r .1 w) ∙ f))) (cases-bool (isShape r))
 
 first : (bs : List ℕ) (d : Result Record SheetFault) → decoded bs 0 ≡ d → Out bs (rest-of bs (bind d shaped))
 first bs (Err f) d =
@@ -172,14 +189,11 @@ first bs (Err f) d =
     (λ u. subst (Refused bs) (sym (u .1)) (inl (u .0, refl)))
     (λ u. subst (Refused bs) (sym (u .1)) (inl (u .0, refl)))
     (no-record bs 0 f d)
-first bs (Ok (ShapeOf g p)) d = first-shape bs g p d (sized g p) refl
-first bs (Ok (Team pot ball a c)) d = first-other bs (Team pot ball a c) d (λ e. let k = e .2 in let z : _≡_ {A = ℕ} 0 1 = cc in omega arith)
-first bs (Ok (Pair a b)) d = first-other bs (Pair a b) d (λ e. let k = e .2 in let z : _≡_ {A = ℕ} 0 1 = cc in omega arith)
-first bs (Ok (Cap a m)) d = first-other bs (Cap a m) d (λ e. let k = e .2 in let z : _≡_ {A = ℕ} 0 1 = cc in omega arith)
-first bs (Ok (Bars n g)) d = first-other bs (Bars n g) d (λ e. let k = e .2 in let z : _≡_ {A = ℕ} 0 1 = cc in omega arith)
-first bs (Ok (Seed x)) d = first-other bs (Seed x) d (λ e. let k = e .2 in let z : _≡_ {A = ℕ} 0 1 = cc in omega arith)
-first bs (Ok (Script pot o)) d = first-other bs (Script pot o) d (λ e. let k = e .2 in let z : _≡_ {A = ℕ} 0 1 = cc in omega arith)
-first bs (Ok End) d = first-other bs End d (λ e. let k = e .2 in let z : _≡_ {A = ℕ} 0 1 = cc in omega arith)
+first bs (Ok r) d =
+    ⊎-elim
+    (λ w. subst (λ q. Out bs (rest-of bs (shaped q))) (sym (w .2)) (first-shape bs (w .0) (w .1) (d ∙ ap Ok (w .2)) (sized (w .0) (w .1)) refl))
+    (λ other. subst (λ o. Out bs (rest-of bs o)) (sym (misplaced r other)) (inl ((r, front-of bs 0 r d, other), refl)))
+    (shape-or-not r)
 
 -- what is read is what the format has
 pub reading-out : (bs : List ℕ) → Out bs (reading bs)
@@ -198,7 +212,7 @@ shape-begun sh z = cond-true _ _ _ (sized-to (sh .groups) (sh .pots) z)
 opens : (bs : List ℕ) (sh : Shape) (rest : List ℕ) → bs ≡ 71 ∷ sh .groups ∷ sh .pots ∷ rest → Sized (sh .groups) (sh .pots) → opened bs ≡ Ok (blank sh)
 opens bs sh rest e z =
     ap (λ l. bind (decoded l 0) shaped) e
-    ∙ ap (λ d. bind d shaped) (reads (ShapeOf (sh .groups) (sh .pots)) (71 ∷ sh .groups ∷ sh .pots ∷ []) rest 0 refl)
+    ∙ ap (λ d. bind d shaped) (reads (ShapeRecord (sh .groups) (sh .pots)) (71 ∷ sh .groups ∷ sh .pots ∷ []) rest 0 refl)
     ∙ ap started (shape-begun sh z)
 
 -- the reading comes to the end of records in order
@@ -225,10 +239,6 @@ reach bs sh (r ∷ rs) at rest b =
     let k : p + sizeOf r ≡ at = sym (b .at ∙ ap (λ l. 3 + length l) (w .4) ∙ (let l = length-append (w .0) (w .1) in omega arith)) in
     subst (Sofar bs (said sh (r ∷ rs))) k (subst (λ t. Sofar bs t (p + sizeOf r)) (said-more sh rs r (b .sized) (x .fits) (x .room)) s)
 
-no-whole : {P : Type 0} (t : Bool) → Decides t P → (P → ⊥) → t ≡ false
-no-whole true d h = absurd (h (d .0 refl))
-no-whole false d h = refl
-
 -- a sheet is read as what it says
 pub accepted-reads : (bs : List ℕ) (t : Sheet) → Accepted bs t → reading bs ≡ Ok t
 accepted-reads bs t w =
@@ -242,6 +252,9 @@ accepted-reads bs t w =
     let c : closed (said sh rs) at (length bs) ≡ Ok tt =
     closed-late (said sh rs) at (length bs) (omega arith) ∙ cond-true _ _ _ (decides-whole sh rs (b .sized) .1 (w .whole)) in
     sym (ended bs (said sh rs) at s End d refl (Ok tt) c) ∙ ap Ok (sym (w .says))
+
+not-shape-end : (r : Record) → IsShape r → r ≡ End → ⊥
+not-shape-end r w e = no-end r (ap ends (w .2)) e
 
 -- a fault is told
 module _ (bs : List ℕ) (sh : Shape) (rs : List Record) (at : ℕ) (rest : List ℕ) (b : Begun bs sh rs at rest) where
@@ -260,9 +273,6 @@ module _ (bs : List ℕ) (sh : Shape) (rs : List Record) (at : ℕ) (rest : List
   unended after e f c =
       let d : decoded (drop at bs) at ≡ Ok End = ap (λ l. decoded l at) (here ∙ e) ∙ end-at after at in
       sym (ended bs (said sh rs) at (reach bs sh rs at rest b) End d refl (Err f) c)
-
-  not-shape-end : (r : Record) → IsShape r → r ≡ End → ⊥
-  not-shape-end r w e = let k = w .2 in let z : _≡_ {A = ℕ} 0 1 = cc in omega arith
 
   still : (why : SheetRefusal) → reading bs ≡ Err (fault why at) → reading bs ≡ Err (fault why (at + 0))
   still why h = h ∙ ap (λ n. Err (fault why n)) (let k : at ≡ at + 0 = omega arith in k)
@@ -287,17 +297,7 @@ module _ (bs : List ℕ) (sh : Shape) (rs : List Record) (at : ℕ) (rest : List
   fails-read Incomplete x =
       let l = whole-length bs sh rs at rest b in
       let k = ap length (x .0) in
-      still Incomplete (unended [] (x .0) (fault Incomplete at) (closed-late (said sh rs) at (length bs) (omega arith) ∙ cond-false _ _ _ (no-whole (isWhole (said sh rs)) (decides-whole sh rs (b .sized)) (x .1))))
-
-misplaced : (r : Record) → (IsShape r → ⊥) → shaped r ≡ Err (fault ShapeMisplaced 0)
-misplaced (ShapeOf g p) h = absurd (h (g, p, refl))
-misplaced (Team pot ball a c) h = refl
-misplaced (Pair a b) h = refl
-misplaced (Cap a m) h = refl
-misplaced (Bars n g) h = refl
-misplaced (Seed x) h = refl
-misplaced (Script pot o) h = refl
-misplaced End h = refl
+      still Incomplete (unended [] (x .0) (fault Incomplete at) (closed-late (said sh rs) at (length bs) (omega arith) ∙ cond-false _ _ _ (no-to (isWhole (said sh rs)) (decides-whole sh rs (b .sized)) (x .1))))
 
 unshaped : (bs : List ℕ) (r : Record) → decoded bs 0 ≡ Ok r → (IsShape r → ⊥) → opened bs ≡ Err (fault ShapeMisplaced 0)
 unshaped bs r d other = ap (λ o. bind o shaped) d ∙ misplaced r other
@@ -310,8 +310,8 @@ first-fails bs ShapeMisplaced x =
     unshaped bs (x .0) (ap (λ l. decoded l 0) (w .3) ∙ reads (x .0) (w .0) (w .1) 0 (w .2)) (x .2)
 first-fails bs OutOfRange x =
     ap (λ l. bind (decoded l 0) shaped) (x .3)
-    ∙ ap (λ d. bind d shaped) (reads (ShapeOf (x .0) (x .1)) (71 ∷ x .0 ∷ x .1 ∷ []) (x .2) 0 refl)
-    ∙ ap started (cond-false (sized (x .0) (x .1)) (Some (shape-of (x .0) (x .1))) None (no-whole (sized (x .0) (x .1)) (sized-from (x .0) (x .1), sized-to (x .0) (x .1)) (x .4)))
+    ∙ ap (λ d. bind d shaped) (reads (ShapeRecord (x .0) (x .1)) (71 ∷ x .0 ∷ x .1 ∷ []) (x .2) 0 refl)
+    ∙ ap started (cond-false (sized (x .0) (x .1)) (Some (shape-of (x .0) (x .1))) None (no-to (sized (x .0) (x .1)) (sized-from (x .0) (x .1), sized-to (x .0) (x .1)) (x .4)))
 first-fails bs Repeated x = absurd x
 first-fails bs TooManyPairs x = absurd x
 first-fails bs NotAnOrder x = absurd x

@@ -14,7 +14,7 @@ use Rattle.std.specs.declared.result.Result.the-variants.{Ok, Err}
 use Rattle.records.specs.declared.refusal.SheetFault.{SheetFault}
 use Rattle.records.specs.declared.refusal.SheetRefusal.the-variants.{UnknownKind, CutShort}
 use Rattle.records.specs.declared.item.Record.{Record}
-use Rattle.records.specs.declared.item.Record.the-variants.{Shape as ShapeOf, Team, Pair, Cap, Bars, Seed, Script, End}
+use Rattle.records.specs.declared.item.Record.the-variants.{Shape as ShapeRecord, Team, Pair, Cap, Bars, Seed, Script, End}
 use Rattle.records.specs.Forms.{Form, bodyOf, sizeOf, eight, decoded}
 use Rattle.records.specs.Refusals.{fault}
 use Rattle.reading.specs.Format.{Front, Unknown, Short}
@@ -65,7 +65,7 @@ take18 (a ∷ b ∷ r) h = refl
 
 -- what was decoded has its form there, kind by kind
 module _ (bs : List ℕ) (at : ℕ) where
-  shape-bytes : (g p : ℕ) → decoded bs at ≡ Ok (ShapeOf g p) → (getD bs 0 0 ≡ 71) × (getD bs 1 0 ≡ g) × (getD bs 2 0 ≡ p)
+  shape-bytes : (g p : ℕ) → decoded bs at ≡ Ok (ShapeRecord g p) → (getD bs 0 0 ≡ 71) × (getD bs 1 0 ≡ g) × (getD bs 2 0 ≡ p)
   shape-bytes g p h = (grind (arith, tells), grind (arith, tells), grind (arith, tells))
 
   team-bytes : (pot ball a : ℕ) (c : List ℕ) → decoded bs at ≡ Ok (Team pot ball a c)
@@ -92,7 +92,7 @@ module _ (bs : List ℕ) (at : ℕ) where
 
 -- the form, from the bytes
 module _ (bs : List ℕ) where
-  shape-form : (g p : ℕ) → 3 ≤ length bs → (getD bs 0 0 ≡ 71) × (getD bs 1 0 ≡ g) × (getD bs 2 0 ≡ p) → Form (ShapeOf g p) (take 3 bs)
+  shape-form : (g p : ℕ) → 3 ≤ length bs → (getD bs 0 0 ≡ 71) × (getD bs 1 0 ≡ g) × (getD bs 2 0 ≡ p) → Form (ShapeRecord g p) (take 3 bs)
   shape-form g p l h = cc (take3 bs l)
 
   team-form : (pot ball a : ℕ) (c : List ℕ) → 7 ≤ length bs
@@ -123,7 +123,7 @@ module _ (bs : List ℕ) where
   end-form l h = cc (take1 bs l)
 
 pub form-of : (bs : List ℕ) (at : ℕ) (r : Record) → decoded bs at ≡ Ok r → Form r (take (sizeOf r) bs)
-form-of bs at (ShapeOf g p) h = shape-form bs g p (decoded-size bs at (ShapeOf g p) h) (shape-bytes bs at g p h)
+form-of bs at (ShapeRecord g p) h = shape-form bs g p (decoded-size bs at (ShapeRecord g p) h) (shape-bytes bs at g p h)
 form-of bs at (Team pot ball a c) h = team-form bs pot ball a c (decoded-size bs at (Team pot ball a c) h) (team-bytes bs at pot ball a c h)
 form-of bs at (Pair a b) h = pair-form bs a b (decoded-size bs at (Pair a b) h) (pair-bytes bs at a b h)
 form-of bs at (Cap a m) h = cap-form bs a m (decoded-size bs at (Cap a m) h) (cap-bytes bs at a m h)
@@ -137,7 +137,7 @@ front-of bs at r h = (take (sizeOf r) bs, drop (sizeOf r) bs, form-of bs at r h,
 
 -- and back: a record is decoded from its form
 pub form-size : (r : Record) (own : List ℕ) → Form r own → length own ≡ sizeOf r
-form-size (ShapeOf g p) own h = ap length h
+form-size (ShapeRecord g p) own h = ap length h
 form-size (Team pot ball a c) own h = ap length (h .1) ∙ ap (λ n. suc (suc (suc (suc n)))) (h .0)
 form-size (Pair a b) own h = ap length h
 form-size (Cap a m) own h = ap length h
@@ -155,7 +155,7 @@ script-at pot tail at h = grind (arith, tells)
 bars-at : (n high low : ℕ) (rest : List ℕ) (at : ℕ) → decoded (66 ∷ n ∷ high ∷ low ∷ rest) at ≡ Ok (Bars n (high * 256 + low))
 bars-at n high low rest at = grind (arith, tells)
 
-shape-at : (g p : ℕ) (rest : List ℕ) (at : ℕ) → decoded (71 ∷ g ∷ p ∷ rest) at ≡ Ok (ShapeOf g p)
+shape-at : (g p : ℕ) (rest : List ℕ) (at : ℕ) → decoded (71 ∷ g ∷ p ∷ rest) at ≡ Ok (ShapeRecord g p)
 shape-at g p rest at = grind (arith, tells)
 
 pair-at : (a b : ℕ) (rest : List ℕ) (at : ℕ) → decoded (88 ∷ a ∷ b ∷ rest) at ≡ Ok (Pair a b)
@@ -188,7 +188,7 @@ script-reads pot o rest at h =
     script-at pot (o ++ rest) at long ∙ ap (λ x. Ok (Script pot x)) front
 
 pub reads : (r : Record) (own rest : List ℕ) (at : ℕ) → Form r own → decoded (own ++ rest) at ≡ Ok r
-reads (ShapeOf g p) own rest at h = ap (λ l. decoded (l ++ rest) at) h ∙ shape-at g p rest at
+reads (ShapeRecord g p) own rest at h = ap (λ l. decoded (l ++ rest) at) h ∙ shape-at g p rest at
 reads (Team pot ball a c) own rest at h = ap (λ l. decoded (l ++ rest) at) (h .1) ∙ team-reads pot ball a c rest at (h .0)
 reads (Pair a b) own rest at h = ap (λ l. decoded (l ++ rest) at) h ∙ pair-at a b rest at
 reads (Cap a m) own rest at h = ap (λ l. decoded (l ++ rest) at) h ∙ cap-at a m rest at

@@ -11,7 +11,7 @@ use Rattle.std.specs.declared.result.Result.{Result}
 use Rattle.std.specs.declared.result.Result.the-variants.{Ok, Err}
 use Rattle.records.specs.declared.refusal.SheetFault.{SheetFault}
 use Rattle.records.specs.declared.item.Record.{Record}
-use Rattle.records.specs.declared.item.Record.the-variants.{Shape as ShapeOf, Team, Pair, Cap, Bars, Seed, Script, End}
+use Rattle.records.specs.declared.item.Record.the-variants.{Shape as ShapeRecord, Team, Pair, Cap, Bars, Seed, Script, End}
 use Rattle.records.specs.Forms.{decoded, sizeOf}
 use Rattle.sheets.specs.declared.sheet.Sheet.{Sheet}
 use Rattle.sheets.specs.Taking.{verdict, taken}
@@ -25,7 +25,7 @@ pub size-fits : (bytes : List ℕ) (p : ℕ) (r : Record) → decoded (drop p by
 size-fits bytes p r h = rw length-drop at (decoded-size (drop p bytes) p r h)
 
 pub size-some : (r : Record) → 1 ≤ sizeOf r
-size-some (ShapeOf g p) = lit≤ tt
+size-some (ShapeRecord g p) = lit≤ tt
 size-some (Team pot ball a c) = lit≤ tt
 size-some (Pair a b) = lit≤ tt
 size-some (Cap a m) = lit≤ tt
@@ -48,7 +48,7 @@ going-err zero s (x ∷ bs) at len f l h = absurd (omega arith)
 going-err (suc n) s bs at len f l h = ap (turn n s bs at len) h
 
 pub not-end : {X : Type 0} (r : Record) (x y : X) → (r ≡ End → ⊥) → atEnd r x y ≡ y
-not-end (ShapeOf g p) x y ne = refl
+not-end (ShapeRecord g p) x y ne = refl
 not-end (Team pot ball a c) x y ne = refl
 not-end (Pair a b) x y ne = refl
 not-end (Cap a m) x y ne = refl
@@ -79,7 +79,7 @@ pub record Sofar (bytes : List ℕ) (s : Sheet) (place : ℕ) : Type 0 where
   pub leads : going left s (drop place bytes) place (length bytes) ≡ reading bytes
 
 shaped-long : (bs : List ℕ) (s : Sheet) (r : Record) → decoded bs 0 ≡ Ok r → shaped r ≡ Ok s → 3 ≤ length bs
-shaped-long bs s (ShapeOf g p) d h = decoded-size bs 0 (ShapeOf g p) d
+shaped-long bs s (ShapeRecord g p) d h = decoded-size bs 0 (ShapeRecord g p) d
 shaped-long bs s (Team pot ball a c) d h = absurd (let z : _≡_ {A = ℕ} 0 1 = cc in omega arith)
 shaped-long bs s (Pair a b) d h = absurd (let z : _≡_ {A = ℕ} 0 1 = cc in omega arith)
 shaped-long bs s (Cap a m) d h = absurd (let z : _≡_ {A = ℕ} 0 1 = cc in omega arith)

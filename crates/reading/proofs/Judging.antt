@@ -18,24 +18,24 @@ use Rattle.shapes.specs.Teams.{Sized, ballsOf, HasTeam, hasTeam}
 use Rattle.shapes.proofs.Balls.{ball-number, balls-few}
 use Rattle.shapes.proofs.Pigeons.{onto}
 use Rattle.records.specs.declared.item.Record.{Record}
-use Rattle.records.specs.declared.item.Record.the-variants.{Shape as ShapeOf, Team, Pair, Cap, Bars, Seed, Script, End}
+use Rattle.records.specs.declared.item.Record.the-variants.{Shape as ShapeRecord, Team, Pair, Cap, Bars, Seed, Script, End}
 use Rattle.sheets.specs.Entrants.{codeIn, associationIn, codeOf, associationOf}
 use Rattle.sheets.specs.Taking.{isShape, fits, repeated, crowded, ordered, barsFit, standsBefore, inPlace, isOrder, named, scripted, scriptedIn, allNamed, anyScript, allScripts, hasSource, isWhole}
 use Rattle.sheets.proofs.Scans.{decides-all, decides-any}
 use Rattle.reading.specs.Format.{said, found, teamIn, capIn, barsIn, seedIn, scriptIn, pairsIn, OrderOf, Fits, Fresh, Room, Ordered, IsShape, Whole, FromUrn, FromScripts}
 use Rattle.reading.proofs.Saying.{getD-each}
 
-apart : {P : Type 0} → false ≡ true → P
-apart h = absurd (true≢false (sym h))
+clash : {P : Type 0} → false ≡ true → P
+clash h = absurd (true≢false (sym h))
 
 -- nothing was found
 pub decides-none : {X : Type 0} (o : Option X) → Decides (not (isSome o)) (o ≡ None)
-decides-none (Some x) = (λ h. apart h, λ e. absurd (let z : _≡_ {A = ℕ} 0 1 = cc in omega arith))
+decides-none (Some x) = (λ h. clash h, λ e. absurd (let z : _≡_ {A = ℕ} 0 1 = cc in omega arith))
 decides-none None = (λ h. refl, λ e. refl)
 
 decides-some : {X : Type 0} (o : Option X) → Decides (isSome o) (o ≡ None → ⊥)
 decides-some (Some x) = (λ h e. let z : _≡_ {A = ℕ} 0 1 = cc in omega arith, λ n. refl)
-decides-some None = (λ h. apart h, λ n. absurd (n refl))
+decides-some None = (λ h. clash h, λ n. absurd (n refl))
 
 decides-yes : Decides true (Unit {0})
 decides-yes = (λ h. tt, λ u. refl)
@@ -77,15 +77,18 @@ module _ (sh : Shape) (rs : List Record) where
   shape-said = refl
 
 -- one test after the other
+is-shape : (r : Record) → isShape r ≡ true → IsShape r
+is-shape (ShapeRecord g p) h = (g, p, refl)
+is-shape (Team pot ball a c) h = clash h
+is-shape (Pair a b) h = clash h
+is-shape (Cap a m) h = clash h
+is-shape (Bars n g) h = clash h
+is-shape (Seed x) h = clash h
+is-shape (Script pot o) h = clash h
+is-shape End h = clash h
+
 pub decides-shape : (r : Record) → Decides (isShape r) (IsShape r)
-decides-shape (ShapeOf g p) = (λ h. (g, p, refl), λ e. refl)
-decides-shape (Team pot ball a c) = (λ h. apart h, λ e. absurd (let k = e .2 in let z : _≡_ {A = ℕ} 0 1 = cc in omega arith))
-decides-shape (Pair a b) = (λ h. apart h, λ e. absurd (let k = e .2 in let z : _≡_ {A = ℕ} 0 1 = cc in omega arith))
-decides-shape (Cap a m) = (λ h. apart h, λ e. absurd (let k = e .2 in let z : _≡_ {A = ℕ} 0 1 = cc in omega arith))
-decides-shape (Bars n g) = (λ h. apart h, λ e. absurd (let k = e .2 in let z : _≡_ {A = ℕ} 0 1 = cc in omega arith))
-decides-shape (Seed x) = (λ h. apart h, λ e. absurd (let k = e .2 in let z : _≡_ {A = ℕ} 0 1 = cc in omega arith))
-decides-shape (Script pot o) = (λ h. apart h, λ e. absurd (let k = e .2 in let z : _≡_ {A = ℕ} 0 1 = cc in omega arith))
-decides-shape End = (λ h. apart h, λ e. absurd (let k = e .2 in let z : _≡_ {A = ℕ} 0 1 = cc in omega arith))
+decides-shape r = (is-shape r, λ w. ap isShape (w .2))
 
 decides-has : (sh : Shape) (n : ℕ) → Decides (hasTeam sh n) (HasTeam sh n)
 decides-has sh n = (λ h. (grind (arith, tells), grind (arith, tells)), λ p. grind (arith, tells))
@@ -101,7 +104,7 @@ team-to : (sh : Shape) (pot ball a : ℕ) (c : List ℕ) → Sized (sh .groups) 
 team-to sh pot ball a c z f = grind (arith, tells)
 
 pub decides-fits : (sh : Shape) (r : Record) → Sized (sh .groups) (sh .pots) → Decides (fits sh r) (Fits sh r)
-decides-fits sh (ShapeOf g p) z = decides-yes
+decides-fits sh (ShapeRecord g p) z = decides-yes
 decides-fits sh (Team pot ball a c) z = (team-from sh pot ball a c, team-to sh pot ball a c z)
 decides-fits sh (Pair a b) z =
     decides-like _ (λ q. (q .0, q .1 .0, q .1 .1)) (λ q. (q .0, (q .1, q .2)))
@@ -114,7 +117,7 @@ decides-fits sh (Script pot o) z = (λ h. grind (arith, tells), λ p. grind (ari
 decides-fits sh End z = decides-yes
 
 pub decides-fresh : (sh : Shape) (rs : List Record) (r : Record) → Sized (sh .groups) (sh .pots) → Fits sh r → Decides (not (repeated (said sh rs) r)) (Fresh rs r)
-decides-fresh sh rs (ShapeOf g p) z f = decides-yes
+decides-fresh sh rs (ShapeRecord g p) z f = decides-yes
 decides-fresh sh rs (Team pot ball a c) z f =
     decides-at _ _ (ap (λ o. not (isSome o)) (team-said sh rs (16 * pot + ball) (ball-number sh pot ball z (f .0)))) (decides-none (found (teamIn (16 * pot + ball)) rs))
 decides-fresh sh rs (Pair a b) z f = decides-yes
@@ -125,7 +128,7 @@ decides-fresh sh rs (Script pot o) z f = decides-at _ _ (ap (λ q. not (isSome q
 decides-fresh sh rs End z f = decides-yes
 
 pub decides-room : (sh : Shape) (rs : List Record) (r : Record) → Decides (not (crowded (said sh rs) r)) (Room rs r)
-decides-room sh rs (ShapeOf g p) = decides-yes
+decides-room sh rs (ShapeRecord g p) = decides-yes
 decides-room sh rs (Team pot ball a c) = decides-yes
 decides-room sh rs (Pair a b) = let e = listed-said sh rs in (λ h. grind (arith, tells), λ p. grind (arith, tells))
 decides-room sh rs (Cap a m) = decides-yes
@@ -190,7 +193,7 @@ decides-order balls o few =
     (decides-all (inPlace balls o) (InPlace balls o) (decides-place balls o) 16)
 
 pub decides-ordered : (sh : Shape) (r : Record) → Sized (sh .groups) (sh .pots) → Decides (ordered sh r) (Ordered sh r)
-decides-ordered sh (ShapeOf g p) z = decides-yes
+decides-ordered sh (ShapeRecord g p) z = decides-yes
 decides-ordered sh (Team pot ball a c) z = decides-yes
 decides-ordered sh (Pair a b) z = decides-yes
 decides-ordered sh (Cap a m) z = decides-yes
@@ -199,12 +202,29 @@ decides-ordered sh (Seed x) z = decides-yes
 decides-ordered sh (Script pot o) z = decides-order (ballsOf sh pot) o (balls-few sh pot z)
 decides-ordered sh End z = decides-yes
 
+-- tests joined
+decides-unless : {P Q : Type 0} (x y : Bool) → Decides x P → Decides y Q → Decides (not x || y) (P → Q)
+decides-unless true y p q = (λ h _. q .0 h, λ f. q .1 (f (p .0 refl)))
+decides-unless false y p q = (λ _ a. absurd (true≢false (sym (p .1 a))), λ _. refl)
+
+not-so : (b : Bool) → (b ≡ true → ⊥) → not b ≡ true
+not-so true h = absurd (h refl)
+not-so false h = refl
+
+-- by whether a seed is there
+by-seed : {P Q : Type 0} (o : Option ℕ) (x y : Bool) → Decides x P → Decides y Q
+    → Decides (cond (isSome o) x y) (((o ≡ None → ⊥) × P) ⊎ ((o ≡ None) × Q))
+by-seed (Some v) x y p q = (
+  λ h. inl (λ e. let k : _≡_ {A = ℕ} 0 1 = cc in omega arith, p .0 h),
+  λ w. ⊎-elim (λ a. p .1 (a .1)) (λ b. let k = b .0 in let k : _≡_ {A = ℕ} 0 1 = cc in absurd (omega arith)) w,
+)
+by-seed None x y p q = (
+  λ h. inr (refl, q .0 h),
+  λ w. ⊎-elim (λ a. absurd (a .0 refl)) (λ b. q .1 (b .1)) w,
+)
+
 -- the end
 module _ (sh : Shape) (rs : List Record) (z : Sized (sh .groups) (sh .pots)) where
-  decides-unless : {P Q : Type 0} (x y : Bool) → Decides x P → Decides y Q → Decides (not x || y) (P → Q)
-  decides-unless true y p q = (λ h _. q .0 h, λ f. q .1 (f (p .0 refl)))
-  decides-unless false y p q = (λ _ a. absurd (true≢false (sym (p .1 a))), λ _. refl)
-
   team-there : (n : ℕ) → Decides (named (said sh rs) n) (HasTeam sh n → found (teamIn n) rs ≡ None → ⊥)
   team-there n =
       ⊎-elim
@@ -221,10 +241,6 @@ module _ (sh : Shape) (rs : List Record) (z : Sized (sh .groups) (sh .pots)) whe
 
   script-there : (pot : ℕ) → pot < 6 → scripted (said sh rs) pot ≡ isSome (found (scriptIn pot) rs)
   script-there pot l = ap isSome (script-said sh rs pot l)
-
-  not-so : (b : Bool) → (b ≡ true → ⊥) → not b ≡ true
-  not-so true h = absurd (h refl)
-  not-so false h = refl
 
   decides-no-script : Decides (not (anyScript (said sh rs))) ((pot : ℕ) → pot < 6 → found (scriptIn pot) rs ≡ None)
   decides-no-script =
@@ -247,18 +263,6 @@ module _ (sh : Shape) (rs : List Record) (z : Sized (sh .groups) (sh .pots)) whe
   decides-scripts =
       decides-like (allScripts (said sh rs)) (λ h pot l. h pot (omega arith) l) (λ h pot _ l. h pot l)
       (decides-all (scriptedIn (said sh rs)) (λ pot. pot < sh .pots → found (scriptIn pot) rs ≡ None → ⊥) script-in 6)
-
-  -- by whether a seed is there
-  by-seed : {P Q : Type 0} (o : Option ℕ) (x y : Bool) → Decides x P → Decides y Q
-      → Decides (cond (isSome o) x y) (((o ≡ None → ⊥) × P) ⊎ ((o ≡ None) × Q))
-  by-seed (Some v) x y p q = (
-    λ h. inl (λ e. let k : _≡_ {A = ℕ} 0 1 = cc in omega arith, p .0 h),
-    λ w. ⊎-elim (λ a. p .1 (a .1)) (λ b. let k = b .0 in let k : _≡_ {A = ℕ} 0 1 = cc in absurd (omega arith)) w,
-  )
-  by-seed None x y p q = (
-    λ h. inr (refl, q .0 h),
-    λ w. ⊎-elim (λ a. absurd (a .0 refl)) (λ b. q .1 (b .1)) w,
-  )
 
   decides-source : Decides (hasSource (said sh rs)) (FromUrn rs ⊎ FromScripts sh rs)
   decides-source =

@@ -15,7 +15,7 @@ use Rattle.shapes.specs.declared.Shape.{Shape}
 use Rattle.shapes.specs.Teams.{Sized}
 use Rattle.shapes.proofs.Balls.{ball-number}
 use Rattle.records.specs.declared.item.Record.{Record}
-use Rattle.records.specs.declared.item.Record.the-variants.{Shape as ShapeOf, Team, Pair, Cap, Bars, Seed, Script, End}
+use Rattle.records.specs.declared.item.Record.the-variants.{Shape as ShapeRecord, Team, Pair, Cap, Bars, Seed, Script, End}
 use Rattle.sheets.specs.declared.sheet.Entrant.{Entrant}
 use Rattle.sheets.specs.Entrants.{entrant}
 use Rattle.sheets.specs.Taking.{blank, taken}
@@ -84,7 +84,7 @@ set-pairs ps p h =
 -- one record more
 pub said-more : (sh : Shape) (rs : List Record) (r : Record) → Sized (sh .groups) (sh .pots) → Fits sh r → Room rs r → taken (said sh rs) r ≡ said sh (r ∷ rs)
 unfolding said
-said-more sh rs (ShapeOf g p) z f m = refl
+said-more sh rs (ShapeRecord g p) z f m = refl
 said-more sh rs (Team pot ball a c) z f m =
     let e = set-for 96 (16 * pot + ball) (λ n. found (teamIn n) rs) (entrant a c) (ball-number sh pot ball z (f .0)) in
     cc

@@ -61,7 +61,7 @@ module _ (sh : Shape) (rs : List Record) (r : Record) (rest : List ℕ) (at : �
       (by-tests (isShape r) (fits sh r) (repeated (said sh rs) r) (crowded (said sh rs) r) (ordered sh r) (decides-shape r) (decides-fits sh r z) (decides-fresh sh rs r z) (decides-room sh rs r) (decides-ordered sh r z))
 
 -- and back: the answer, from the conditions
-no-to : {P : Type 0} (b : Bool) → Decides b P → (P → ⊥) → b ≡ false
+pub no-to : {P : Type 0} (b : Bool) → Decides b P → (P → ⊥) → b ≡ false
 no-to true d h = absurd (h (d .0 refl))
 no-to false d h = refl
 

@@ -18,7 +18,7 @@ use Rattle.records.specs.declared.refusal.SheetFault.{SheetFault}
 use Rattle.records.specs.declared.refusal.SheetRefusal.{SheetRefusal}
 use Rattle.records.specs.declared.refusal.SheetRefusal.the-variants.{UnknownKind, CutShort, ShapeMisplaced, OutOfRange, Repeated, TooManyPairs, NotAnOrder, BytesAfterEnd, Incomplete}
 use Rattle.records.specs.declared.item.Record.{Record}
-use Rattle.records.specs.declared.item.Record.the-variants.{Shape as ShapeOf, Team, Pair, Cap, Bars, Seed, Script, End}
+use Rattle.records.specs.declared.item.Record.the-variants.{Shape as ShapeRecord, Team, Pair, Cap, Bars, Seed, Script, End}
 use Rattle.records.specs.Forms.{Form, bodyOf}
 use Rattle.sheets.specs.declared.sheet.Sheet.{Sheet}
 use Rattle.sheets.specs.declared.sheet.Entrant.{Entrant}
@@ -69,7 +69,7 @@ for asked n x = cond (eqb n asked) (Some x) None
 
 -- a T names its team's code, and its association unless that is 0
 abbrev pub teamIn : ℕ → Record → Option Entrant
-teamIn n (ShapeOf g p) = None
+teamIn n (ShapeRecord g p) = None
 teamIn n (Team pot ball a c) = for n (16 * pot + ball) (entrant a c)
 teamIn n (Pair a b) = None
 teamIn n (Cap a m) = None
@@ -79,7 +79,7 @@ teamIn n (Script pot o) = None
 teamIn n End = None
 
 abbrev pub capIn : ℕ → Record → Option ℕ
-capIn n (ShapeOf g p) = None
+capIn n (ShapeRecord g p) = None
 capIn n (Team pot ball a c) = None
 capIn n (Pair a b) = None
 capIn n (Cap a m) = for n a m
@@ -89,7 +89,7 @@ capIn n (Script pot o) = None
 capIn n End = None
 
 abbrev pub barsIn : ℕ → Record → Option ℕ
-barsIn n (ShapeOf g p) = None
+barsIn n (ShapeRecord g p) = None
 barsIn n (Team pot ball a c) = None
 barsIn n (Pair a b) = None
 barsIn n (Cap a m) = None
@@ -99,7 +99,7 @@ barsIn n (Script pot o) = None
 barsIn n End = None
 
 abbrev pub seedIn : Record → Option ℕ
-seedIn (ShapeOf g p) = None
+seedIn (ShapeRecord g p) = None
 seedIn (Team pot ball a c) = None
 seedIn (Pair a b) = None
 seedIn (Cap a m) = None
@@ -109,7 +109,7 @@ seedIn (Script pot o) = None
 seedIn End = None
 
 abbrev pub scriptIn : ℕ → Record → Option (List ℕ)
-scriptIn n (ShapeOf g p) = None
+scriptIn n (ShapeRecord g p) = None
 scriptIn n (Team pot ball a c) = None
 scriptIn n (Pair a b) = None
 scriptIn n (Cap a m) = None
@@ -120,7 +120,7 @@ scriptIn n End = None
 
 -- the pairs before, and an X's behind them
 abbrev pub andPair : Record → List (ℕ × ℕ) → List (ℕ × ℕ)
-andPair (ShapeOf g p) ps = ps
+andPair (ShapeRecord g p) ps = ps
 andPair (Team pot ball a c) ps = ps
 andPair (Pair a b) ps = ps ++ (a, b) ∷ []
 andPair (Cap a m) ps = ps
@@ -165,7 +165,7 @@ pub record OrderOf (balls : ℕ) (order : List ℕ) : Type 0 where
 
 -- each field is in range
 abbrev pub Fits : Shape → Record → Type 0
-Fits sh (ShapeOf g p) = Unit {0}
+Fits sh (ShapeRecord g p) = Unit {0}
 Fits sh (Team pot ball a c) =
     (ball < ballsOf sh pot) × (a ≤ 64) × (Capital (getD c 0 0) × Capital (getD c 1 0) × Capital (getD c 2 0))
 Fits sh (Pair a b) = (a ≡ b → ⊥) × HasTeam sh a × HasTeam sh b
@@ -177,7 +177,7 @@ Fits sh End = Unit {0}
 
 -- no earlier T or B for the team, C for the association, S for the pot, or U
 abbrev pub Fresh : List Record → Record → Type 0
-Fresh rs (ShapeOf g p) = Unit {0}
+Fresh rs (ShapeRecord g p) = Unit {0}
 Fresh rs (Team pot ball a c) = Missing (found (teamIn (16 * pot + ball)) rs)
 Fresh rs (Pair a b) = Unit {0}
 Fresh rs (Cap a m) = Missing (found (capIn a) rs)
@@ -188,7 +188,7 @@ Fresh rs End = Unit {0}
 
 -- a pair is at most the 64th
 abbrev pub Room : List Record → Record → Type 0
-Room rs (ShapeOf g p) = Unit {0}
+Room rs (ShapeRecord g p) = Unit {0}
 Room rs (Team pot ball a c) = Unit {0}
 Room rs (Pair a b) = length (pairsIn rs) < 64
 Room rs (Cap a m) = Unit {0}
@@ -199,7 +199,7 @@ Room rs End = Unit {0}
 
 -- a script is an order of its pot
 abbrev pub Ordered : Shape → Record → Type 0
-Ordered sh (ShapeOf g p) = Unit {0}
+Ordered sh (ShapeRecord g p) = Unit {0}
 Ordered sh (Team pot ball a c) = Unit {0}
 Ordered sh (Pair a b) = Unit {0}
 Ordered sh (Cap a m) = Unit {0}
@@ -210,7 +210,7 @@ Ordered sh End = Unit {0}
 
 -- the record is a G
 abbrev pub IsShape : Record → Type 0
-IsShape r = (g : ℕ) × (p : ℕ) × (r ≡ ShapeOf g p)
+IsShape r = (g : ℕ) × (p : ℕ) × (r ≡ ShapeRecord g p)
 
 -- neither a G nor the end
 abbrev pub Inner : Record → Type 0

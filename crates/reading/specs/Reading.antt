@@ -13,7 +13,7 @@ use Rattle.shapes.specs.Teams.{shapeOf}
 use Rattle.records.specs.declared.refusal.SheetFault.{SheetFault}
 use Rattle.records.specs.declared.refusal.SheetRefusal.the-variants.{CutShort, ShapeMisplaced, OutOfRange, BytesAfterEnd, Incomplete}
 use Rattle.records.specs.declared.item.Record.{Record}
-use Rattle.records.specs.declared.item.Record.the-variants.{Shape as ShapeOf, Team, Pair, Cap, Bars, Seed, Script, End}
+use Rattle.records.specs.declared.item.Record.the-variants.{Shape as ShapeRecord, Team, Pair, Cap, Bars, Seed, Script, End}
 use Rattle.records.specs.Forms.{decoded, sizeOf}
 use Rattle.records.specs.Refusals.{fault}
 use Rattle.sheets.specs.declared.sheet.Sheet.{Sheet}
@@ -30,7 +30,7 @@ started None = Err (fault OutOfRange 0)
 
 -- the first record must be the shape
 abbrev pub shaped : Record → Result Sheet SheetFault
-shaped (ShapeOf g p) = started (shapeOf g p)
+shaped (ShapeRecord g p) = started (shapeOf g p)
 shaped (Team pot ball a c) = Err (fault ShapeMisplaced 0)
 shaped (Pair a b) = Err (fault ShapeMisplaced 0)
 shaped (Cap a m) = Err (fault ShapeMisplaced 0)
@@ -49,7 +49,7 @@ closed s at len =
 
 -- x at the end record, else y
 abbrev pub atEnd : {X : Type 0} → Record → X → X → X
-atEnd (ShapeOf g p) x y = y
+atEnd (ShapeRecord g p) x y = y
 atEnd (Team pot ball a c) x y = y
 atEnd (Pair a b) x y = y
 atEnd (Cap a m) x y = y

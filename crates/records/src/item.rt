@@ -4,7 +4,7 @@ ghost use Rattle.records.specs.Forms.{decoded, sizeOf};
 use crate::refusal::SheetFault;
 use crate::refusal::SheetRefusal;
 
-// What a record says, its fields not yet held against the shape.
+// What a record says, its fields not yet compared with the shape.
 #[derive(Clone, Copy)]
 pub enum Record {
     Shape {
@@ -27,7 +27,7 @@ pub enum Record {
     },
     Bars {
         team: u8,
-        groups: u16,
+        barred: u16,
     },
     Seed {
         seed: u64,
@@ -82,7 +82,7 @@ pub fn record_at(rest: &[u8], place: usize) -> Result<Record, SheetFault>
         }),
         [b'B', team, high, low, ..] => Ok(Record::Bars {
             team: *team,
-            groups: u16::from_be_bytes([*high, *low]),
+            barred: u16::from_be_bytes([*high, *low]),
         }),
         [b'U', a, b, c, d, e, f, g, h, ..] => {
             Ok(Record::Seed {
@@ -96,6 +96,7 @@ pub fn record_at(rest: &[u8], place: usize) -> Result<Record, SheetFault>
         }
         [b'Z', ..] => Ok(Record::End),
         [] | [b'G' | b'T' | b'X' | b'C' | b'B' | b'U' | b'S', ..] => {
+            // written out: behind a call the proof would not know which of these came
             let refusal = SheetRefusal::CutShort;
             Err(SheetFault { refusal, place })
         }

@@ -1,4 +1,4 @@
-// The records of a sheet: what the bytes at its front say, before the shape is asked.
+// The records of a sheet: what the bytes at its front say, before they are compared with the shape.
 mod item;
 mod refusal;
 

@@ -18,6 +18,7 @@ fn take_in<R: Read>(input: &mut R, buf: &mut [u8; MOST]) -> io::Result<usize>
     ensures { λ r. ⌜ made r (λ taken. taken ≤ 4096) ⌝ }
 {
     let mut taken = 0;
+    // The bound is there so that the loop is seen to end; no input comes to it.
     for _ in 0..u64::MAX {
         if taken >= MOST {
             break;

@@ -14,7 +14,7 @@ use Rattle.shapes.specs.Teams.{ballsOf, hasTeam}
 use Rattle.records.specs.declared.refusal.SheetFault.{SheetFault}
 use Rattle.records.specs.declared.refusal.SheetRefusal.the-variants.{ShapeMisplaced, OutOfRange, Repeated, TooManyPairs, NotAnOrder}
 use Rattle.records.specs.declared.item.Record.{Record}
-use Rattle.records.specs.declared.item.Record.the-variants.{Shape as ShapeOf, Team, Pair, Cap, Bars, Seed, Script, End}
+use Rattle.records.specs.declared.item.Record.the-variants.{Shape as ShapeRecord, Team, Pair, Cap, Bars, Seed, Script, End}
 use Rattle.records.specs.Refusals.{fault}
 use Rattle.sheets.specs.declared.sheet.Sheet.{Sheet}
 use Rattle.sheets.specs.declared.sheet.Entrant.{Entrant}
@@ -35,12 +35,12 @@ blank sh = record {
 }
 
 -- a capital letter
-abbrev pub letter : ℕ → Bool
-letter x = leb 65 x && leb x 90
+abbrev pub capital : ℕ → Bool
+capital x = leb 65 x && leb x 90
 
 -- three of them
-abbrev pub letters : List ℕ → Bool
-letters c = letter (getD c 0 0) && (letter (getD c 1 0) && letter (getD c 2 0))
+abbrev pub capitals : List ℕ → Bool
+capitals c = capital (getD c 0 0) && (capital (getD c 1 0) && capital (getD c 2 0))
 
 -- no bit at or above the number of groups; 16 is the most that two bytes can bar
 abbrev pub barsFit : ℕ → ℕ → Bool
@@ -59,7 +59,7 @@ isOrder balls o = allBelow (inPlace balls o) 16
 
 -- a record that only the front of a sheet has
 abbrev pub isShape : Record → Bool
-isShape (ShapeOf g p) = true
+isShape (ShapeRecord g p) = true
 isShape (Team pot ball a c) = false
 isShape (Pair a b) = false
 isShape (Cap a m) = false
@@ -71,8 +71,8 @@ isShape End = false
 -- each field is in range. The fixed limits of pot and ball hold of every shape of a draw; they keep a number
 -- below 96 whatever shape the record has
 abbrev pub fits : Shape → Record → Bool
-fits sh (ShapeOf g p) = true
-fits sh (Team pot ball a c) = (leb pot 5 && (leb ball 15 && leb a 64)) && (ltb ball (ballsOf sh pot) && letters c)
+fits sh (ShapeRecord g p) = true
+fits sh (Team pot ball a c) = (leb pot 5 && (leb ball 15 && leb a 64)) && (ltb ball (ballsOf sh pot) && capitals c)
 fits sh (Pair a b) = not (eqb a b) && (hasTeam sh a && hasTeam sh b)
 fits sh (Cap a m) = (leb 1 a && leb a 64) && (leb 1 m && leb m 6)
 fits sh (Bars n g) = hasTeam sh n && barsFit g (sh .groups)
@@ -82,7 +82,7 @@ fits sh End = true
 
 -- such a record was there before
 abbrev pub repeated : Sheet → Record → Bool
-repeated s (ShapeOf g p) = false
+repeated s (ShapeRecord g p) = false
 repeated s (Team pot ball a c) = isSome (getD (s .teams) (16 * pot + ball) None)
 repeated s (Pair a b) = false
 repeated s (Cap a m) = isSome (getD (s .caps) a None)
@@ -93,7 +93,7 @@ repeated s End = false
 
 -- a pair where 64 are listed
 abbrev pub crowded : Sheet → Record → Bool
-crowded s (ShapeOf g p) = false
+crowded s (ShapeRecord g p) = false
 crowded s (Team pot ball a c) = false
 crowded s (Pair a b) = leb 64 (s .listed)
 crowded s (Cap a m) = false
@@ -104,7 +104,7 @@ crowded s End = false
 
 -- a script is an order of its pot
 abbrev pub ordered : Shape → Record → Bool
-ordered sh (ShapeOf g p) = true
+ordered sh (ShapeRecord g p) = true
 ordered sh (Team pot ball a c) = true
 ordered sh (Pair a b) = true
 ordered sh (Cap a m) = true
@@ -207,7 +207,7 @@ withScript s pot o = record {
 
 -- the sheet record after a record that is taken
 abbrev pub taken : Sheet → Record → Sheet
-taken s (ShapeOf g p) = s
+taken s (ShapeRecord g p) = s
 taken s (Team pot ball a c) = withTeam s (16 * pot + ball) (entrant a c)
 taken s (Pair a b) = withPair s a b
 taken s (Cap a m) = withCap s a m

@@ -10,7 +10,7 @@ ghost use Rattle.std.specs.declared.option.Option.the-variants.{None, Some};
 ghost use Rattle.std.specs.declared.result.Result.the-variants.{Ok, Err};
 ghost use Rattle.records.specs.declared.refusal.SheetRefusal.the-variants.{TooManyPairs};
 ghost use Rattle.sheets.specs.Entrants.{entrant};
-ghost use Rattle.sheets.specs.Taking.{letters, barsFit, once, onceOrdered, withPair, withSeed, withScript, verdict, taken};
+ghost use Rattle.sheets.specs.Taking.{barsFit, capitals, once, onceOrdered, withPair, withSeed, withScript, verdict, taken};
 use crate::order::is_order;
 use crate::sheet::Entrant;
 use crate::sheet::Sheet;
@@ -19,7 +19,7 @@ use records::SheetFault;
 use records::SheetRefusal;
 
 fn capitals(code: [u8; 3]) -> bool
-    ensures { λ r. ⌜ r ≡ letters code ⌝ }
+    ensures { λ r. ⌜ r ≡ capitals code ⌝ }
 {
     match code {
         [b'A'..=b'Z', b'A'..=b'Z', b'A'..=b'Z'] => true,
@@ -28,10 +28,10 @@ fn capitals(code: [u8; 3]) -> bool
 }
 
 // Whether no bit at or above the number of groups is set.
-fn bars_fit(bars: u16, groups: u8) -> bool
-    ensures { λ r. ⌜ r ≡ barsFit bars groups ⌝ }
+fn bars_fit(barred: u16, groups: u8) -> bool
+    ensures { λ r. ⌜ r ≡ barsFit barred groups ⌝ }
 {
-    groups <= 16 && (bars as u32) < (1u32 << groups as u32)
+    groups <= 16 && (barred as u32) < (1u32 << groups as u32)
 }
 
 // The entrant that a T names: association 0 says that it has none.
@@ -107,7 +107,7 @@ impl Sheet {
         Ok(())
     }
 
-    // Takes a record after the first, or tells why not; a refusal leaves the record as it is.
+    // Takes a record after the first, or tells why not; a refusal leaves the sheet record as it is.
     pub fn put(&mut self, item: Record, place: usize) -> Result<(), SheetFault>
         ensures answer { λ r. ⌜ r ≡ verdict (now (self .entry)) item place ⌝ }
         ensures after { λ r. ⌜ now (self .exit) ≡ cond (isOk r) (taken (now (self .entry)) item) (now (self .entry)) ⌝ }
@@ -136,9 +136,9 @@ impl Sheet {
                 association: association @ 1..=64,
                 most: most @ 1..=6,
             } => { fill_once(&mut self.caps, association as usize, most, place) }
-            Record::Bars { team, groups }
-                if shape.has_team(team) && bars_fit(groups, shape.groups) => {
-                fill_once(&mut self.bars, team as usize, groups, place)
+            Record::Bars { team, barred }
+                if shape.has_team(team) && bars_fit(barred, shape.groups) => {
+                fill_once(&mut self.bars, team as usize, barred, place)
             }
             Record::Seed { seed } => self.put_seed(seed, place),
             Record::Script {
@@ -151,6 +151,7 @@ impl Sheet {
             | Record::Cap { .. }
             | Record::Bars { .. }
             | Record::Script { .. } => {
+                // written out: behind a call the proof would not know which of these came
                 let refusal = SheetRefusal::OutOfRange;
                 Err(SheetFault { refusal, place })
             }
