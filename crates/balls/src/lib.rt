@@ -1,4 +1,6 @@
 // The balls that are in, by the number of their team.
+#![tactic(auto)]
+
 ghost use Rattle.std.specs.Prelude.{◌≡◌, ◌+◌, ◌*◌, ◌<◌, ◌≤◌};
 ghost use Rattle.balls.specs.Sets.{HasLower, WithLower, count_first, count_in, is_in_set, of_shape, teams_of, without};
 

@@ -1,4 +1,6 @@
 // The clash rule of bars: no placed team stands in a group that is barred to it.
+#![tactic(auto)]
+
 ghost use Rattle.std.specs.Prelude.{◌≡◌, ◌<◌};
 ghost use Rattle.bars.specs.Barred.{Barred, BarsAdmit, HasBit, Respected};
 ghost use Rattle.shapes.specs.Answers.{Exactly};

@@ -1,4 +1,6 @@
 // The clash rule of caps: in each group, the teams of a capped association number at most its cap.
+#![tactic(auto)]
+
 mod caps;
 mod rule;
 

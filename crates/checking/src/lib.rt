@@ -1,4 +1,6 @@
 // What a program learns of the bytes of a sheet: the sheet record, or the fault that it is to tell.
+#![tactic(auto)]
+
 ghost use Rattle.std.specs.Prelude.{◌≡◌};
 ghost use Rattle.reading.specs.Reading.{reading};
 ghost use Rattle.checking.specs.Checking.{told_above};

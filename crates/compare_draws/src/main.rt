@@ -1,4 +1,6 @@
 // Answers cases of tables, clash rules and ball sources: each line of standard input by one line.
+#![tactic(auto)]
+
 mod asking;
 mod comparing;
 mod judging;

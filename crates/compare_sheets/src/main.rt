@@ -1,4 +1,6 @@
 // Answers cases: a line of standard input is a sheet in base 16, its answer a line or a whole listing.
+#![tactic(auto)]
+
 ghost use Rattle.std.specs.Prelude.{◌<◌, IfSome};
 
 use checking::{Refusal, checked};

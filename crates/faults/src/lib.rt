@@ -1,4 +1,6 @@
 // What a layer refuses, and the line that tells of it.
+#![tactic(auto)]
+
 ghost use Rattle.std.specs.Prelude.{◌≡◌};
 ghost use Rattle.faults.specs.Numbers.{layer_number, text_number};
 ghost use Rattle.faults.specs.Text.{answered, line_of, written};

@@ -1,4 +1,6 @@
 // A list whose entries stand in memory that its caller lends.
+#![tactic(auto)]
+
 ghost use Rattle.std.specs.Prelude.{◌≡◌, ◌-◌, ◌≤◌, length};
 ghost use Rattle.std.specs.List.{slice_get};
 ghost use Rattle.lists.specs.Entries.{added, counted, entries, number_of, written};

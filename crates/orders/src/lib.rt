@@ -1,4 +1,6 @@
 // Whether sixteen bytes are an order of a pot's balls: each ball once, and 255 from there on.
+#![tactic(auto)]
+
 ghost use Rattle.std.specs.Prelude.{◌≡◌, ◌<◌, ◌≤◌, Decides};
 ghost use Rattle.orders.specs.Orders.{OrderOf, stands_before, in_place, all_in_place, is_order};
 

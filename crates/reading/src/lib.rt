@@ -1,4 +1,6 @@
 // Reads a sheet: records of a kind byte and a body whose length the kind fixes, from the front.
+#![tactic(auto)]
+
 ghost use Rattle.std.specs.Prelude.{◌≡◌, ◌<◌, Ok, Err};
 ghost use Rattle.reading.specs.Format.{Exact, told};
 ghost use Rattle.reading.specs.Reading.{opened, closed, reading, answered, filled};

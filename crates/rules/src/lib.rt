@@ -1,4 +1,6 @@
 // What a clash rule is, the rule made of two, and which full draws a rule admits.
+#![tactic(auto)]
+
 mod admissible;
 mod both;
 mod rule;

@@ -1,4 +1,6 @@
 // Balls that come in orders written down, one for each pot.
+#![tactic(auto)]
+
 ghost use Rattle.std.specs.Prelude.{◌≡◌, ℕ, ◌<◌, ◌≤◌, IfSome, None, Decides, MatchOption, slice_index, slice_index_or};
 ghost use Rattle.shapes.specs.Teams.{balls_of, pot_of};
 ghost use Rattle.sources.specs.Sources.{NoneIn};

@@ -1,5 +1,7 @@
 // A second office: a ball source and a clash rule of its own, written against the traits alone. Nothing of the engine is
 // changed for them, and what is written over every source and every rule takes them as it takes the engine's own.
+#![tactic(auto)]
+
 mod same_half;
 mod typed;
 

@@ -1,4 +1,6 @@
 // The shape of a draw: how many groups and pots it has, and which teams.
+#![tactic(auto)]
+
 ghost use Rattle.std.specs.Prelude.{◌≡◌, ◌*◌};
 ghost use Rattle.shapes.specs.Answers.{Exactly};
 ghost use Rattle.shapes.specs.Counting.{count_below};

@@ -1,4 +1,6 @@
 // Tells what the sheet on standard input says, or why it is refused.
+#![tactic(auto)]
+
 ghost use Rattle.std.specs.Prelude.{◌≤◌, IfOk};
 
 use checking::{Refusal, checked};

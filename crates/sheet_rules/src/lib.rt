@@ -1,4 +1,6 @@
 // The clash rule of a sheet: its pairs, its caps and its bars, joined by Both.
+#![tactic(auto)]
+
 ghost use Rattle.std.specs.Prelude.{◌≡◌, ℕ, ◌<◌, ◌↔◌, None, slice_index_or};
 ghost use Rattle.bars.specs.Barred.{BarsAdmit};
 ghost use Rattle.caps.specs.Caps.{CapsAdmit};

@@ -1,4 +1,6 @@
 // Where the balls of a draw come from.
+#![tactic(auto)]
+
 ghost use Rattle.std.specs.Prelude.{◌≡◌, ℕ, Some, None, Option};
 ghost use Rattle.shapes.specs.Answers.{Exactly};
 ghost use Rattle.sources.specs.Sources.{Gave, NoneIn};

@@ -1,4 +1,6 @@
 // Balls that come by chance, from a seed.
+#![tactic(auto)]
+
 ghost use Rattle.std.specs.Prelude.{◌≡◌, ℕ, true, ◌↔◌};
 ghost use Rattle.balls.specs.Sets.{is_in_set, of_shape};
 ghost use Rattle.shapes.specs.Teams.{HasTeam};
