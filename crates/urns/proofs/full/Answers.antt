@@ -9,7 +9,7 @@ pub returns : goal.returns
 returns c =
     let All : BallSet → Type 0 = λ s. (team : ℕ) → (is_in_set s team ≡ true) ↔ HasTeam c.args.shape team in
     record {
-      value = c.of-shape.ensures;
-      teams = subst All (sym c.of-shape.ensures) (shape_teams c.args.shape);
+      value = c.of_shape.ensures;
+      teams = subst All (sym c.of_shape.ensures) (shape_teams c.args.shape);
       decided = decided;
     }

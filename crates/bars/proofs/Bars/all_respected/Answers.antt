@@ -4,7 +4,7 @@ use Rattle.tables.proofs.Seated.{none_some, seat_past}
 use Rattle.bars.proofs.Bars.all_respected.Goals as goal
 
 pub loop-team-preserved : goal.loop-team-preserved
-loop-team-preserved c = below_more _ _ c.loop-team.invariant c.if-not-is-respected.ensures
+loop-team-preserved c = below_more _ _ c.loop-team.invariant c.if-not-is_respected.ensures
 
 pub returns : goal.returns
 returns c n =

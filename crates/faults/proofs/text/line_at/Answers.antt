@@ -16,11 +16,11 @@ returns c =
     let s = codes " " in
     let n = decimal f.number in
     let p = decimal f.place in
-    let first : Come bs at t c.text-at-end.new.buf c.text-at-end.result = record { end = c.text-at-end.ensures.end; after = c.text-at-end.ensures.after } in
-    let layer = go_on bs _ _ t l at _ _ within first c.decimal-at-end.ensures.end c.decimal-at-end.ensures.after in
-    let space = go_on bs _ _ (t ++ l) s at _ _ within layer c.text-at-end-2.ensures.end c.text-at-end-2.ensures.after in
-    let number = go_on bs _ _ (t ++ l ++ s) n at _ _ within space c.decimal-at-end-2.ensures.end c.decimal-at-end-2.ensures.after in
-    let again = go_on bs _ _ (t ++ l ++ s ++ n) s at _ _ within number c.text-at-end-3.ensures.end c.text-at-end-3.ensures.after in
-    let place = go_on bs _ _ (t ++ l ++ s ++ n ++ s) p at _ _ within again c.decimal-at-end-3.ensures.end c.decimal-at-end-3.ensures.after in
-    let last = go_on bs _ _ (t ++ l ++ s ++ n ++ s ++ p) (10 ∷ []) at _ _ within place c.text-at.ensures.end c.text-at.ensures.after in
+    let first : Come bs at t c.text_at-end.new.buf c.text_at-end.result = record { end = c.text_at-end.ensures.end; after = c.text_at-end.ensures.after } in
+    let layer = go_on bs _ _ t l at _ _ within first c.decimal_at-end.ensures.end c.decimal_at-end.ensures.after in
+    let space = go_on bs _ _ (t ++ l) s at _ _ within layer c.text_at-end-2.ensures.end c.text_at-end-2.ensures.after in
+    let number = go_on bs _ _ (t ++ l ++ s) n at _ _ within space c.decimal_at-end-2.ensures.end c.decimal_at-end-2.ensures.after in
+    let again = go_on bs _ _ (t ++ l ++ s ++ n) s at _ _ within number c.text_at-end-3.ensures.end c.text_at-end-3.ensures.after in
+    let place = go_on bs _ _ (t ++ l ++ s ++ n ++ s) p at _ _ within again c.decimal_at-end-3.ensures.end c.decimal_at-end-3.ensures.after in
+    let last = go_on bs _ _ (t ++ l ++ s ++ n ++ s ++ p) (10 ∷ []) at _ _ within place c.text_at.ensures.end c.text_at.ensures.after in
     last.after ∙ ap (λ k. laid bs at (refused_text k f.number f.place)) c.number.ensures

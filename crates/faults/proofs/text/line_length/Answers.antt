@@ -5,19 +5,19 @@ use Rattle.faults.proofs.Laid.{decimal_short}
 use Rattle.faults.proofs.Lines.{length_text}
 use Rattle.faults.proofs.text.line_length.Goals as goal
 
-pub overflow-add-numbers : goal.overflow-add-numbers
-overflow-add-numbers c = omega (arith, decimal_short c.number.result (omega arith), decimal_short c.args.fault.number (omega arith))
+pub overflow_add-numbers : goal.overflow_add-numbers
+overflow_add-numbers c = omega (arith, decimal_short c.number.result (omega arith), decimal_short c.args.fault.number (omega arith))
 
 -- three numbers of at most twenty digits
 numbers_short : (c : goal.After-digits-3) → c.digits.result + c.digits-2.result + c.digits-3.result ≤ 60
 numbers_short c =
     omega (arith, decimal_short c.number.result (omega arith), decimal_short c.args.fault.number (omega arith), decimal_short c.args.fault.place (omega arith))
 
-pub overflow-add-numbers-2 : goal.overflow-add-numbers-2
-overflow-add-numbers-2 c = omega (arith, numbers_short c)
+pub overflow_add-numbers-2 : goal.overflow_add-numbers-2
+overflow_add-numbers-2 c = omega (arith, numbers_short c)
 
-pub overflow-add-result : goal.overflow-add-result
-overflow-add-result c = omega (arith, numbers_short c)
+pub overflow_add-result : goal.overflow_add-result
+overflow_add-result c = omega (arith, numbers_short c)
 
 pub returns : goal.returns
 returns c =

@@ -1,7 +1,7 @@
 use Rattle.std.proofs.Common.{ℕ, ◌+◌, List, Option, sym, refl, subst, arith}
 use Rattle.second_office.specs.Places.{Noted, all_noted, none_noted, noted_before, noted_first}
 use Rattle.second_office.proofs.typed.places_of.Goals as goal
-use Rattle.second_office.proofs.typed.places_of.Goals.{then-team-lt96+then-is-none, else-team-lt96, else-team-lt96-via-then-team-lt96+else-is-none, else-team-lt96-via-else-team-lt96}
+use Rattle.second_office.proofs.typed.places_of.Goals.{then-team-lt96+then-is_none, else-team-lt96, else-team-lt96-via-then-team-lt96+else-is_none, else-team-lt96-via-else-team-lt96}
 
 pub loop-place-init : goal.loop-place-init
 loop-place-init c = none_noted c.args.numbers.now
@@ -12,12 +12,12 @@ loop-place-preserved c =
     let now = c.loop-place.place in
     let Next : List (Option ℕ) → Type 0 = Noted numbers (now + 1) in
     elim c.if-team-lt96.branch [
-      | then-team-lt96+then-is-none w ↦
-          subst Next (sym w.places-is) (noted_first numbers now c.loop-place.places c.loop-place.invariant _ refl w.if-team-lt96.true w.if-is-none.ensures)
+      | then-team-lt96+then-is_none w ↦
+          subst Next (sym w.places-is) (noted_first numbers now c.loop-place.places c.loop-place.invariant _ refl w.if-team-lt96.true w.if-is_none.ensures)
       | else-team-lt96 w ↦
           subst Next (sym w.places-is) (noted_before numbers now c.loop-place.places c.loop-place.invariant
           (λ low. elim w.else-team-lt96.branch [
-            | else-team-lt96-via-then-team-lt96+else-is-none v ↦ v.if-is-none.ensures
+            | else-team-lt96-via-then-team-lt96+else-is_none v ↦ v.if-is_none.ensures
             | else-team-lt96-via-else-team-lt96 v ↦ absurd (omega (arith, v.if-team-lt96.false))
           ]))
     ]

@@ -13,8 +13,8 @@ pub loop-team-preserved : goal.loop-team-preserved
 loop-team-preserved c =
     let p = has_team c.args.self in
     elim c.if-has_team.branch [
-      | then-has_team w ↦ (w.teams-is ∙ ap (λ (n : ℕ). n + 1) c.loop-team.invariant.0 ∙ sym (count_yes p _ (sym c.has-team.ensures.test ∙ w.if-has-team.true)), omega (arith, w.teams-is))
-      | else-has_team w ↦ (w.teams-is ∙ c.loop-team.invariant.0 ∙ sym (count_no p _ (sym c.has-team.ensures.test ∙ w.if-has-team.false)), omega (arith, w.teams-is))
+      | then-has_team w ↦ (w.teams-is ∙ ap (λ (n : ℕ). n + 1) c.loop-team.invariant.0 ∙ sym (count_yes p _ (sym c.has_team.ensures.test ∙ w.if-has_team.true)), omega (arith, w.teams-is))
+      | else-has_team w ↦ (w.teams-is ∙ c.loop-team.invariant.0 ∙ sym (count_no p _ (sym c.has_team.ensures.test ∙ w.if-has_team.false)), omega (arith, w.teams-is))
     ]
 
 pub returns : goal.returns

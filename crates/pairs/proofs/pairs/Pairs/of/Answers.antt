@@ -7,4 +7,4 @@ front : (written list rest : List (ℕ × ℕ)) → written ≡ list → take (l
 front written list rest e = ap (λ (xs : List (ℕ × ℕ)). take (length list) (xs ++ rest)) e ∙ take_at list rest _ refl
 
 pub returns : goal.returns
-returns c = front _ c.args.list.now _ c.copy-from-slice.ensures.after
+returns c = front _ c.args.list.now _ c.copy_from_slice.ensures.after

@@ -2,7 +2,7 @@ use Rattle.std.proofs.Common.{◌≡◌, ℕ, ◌+◌, Bool, Option, sym, ap, �
 use Rattle.second_office.specs.Typing.{earlier}
 use Rattle.second_office.proofs.Leading.{Leading, leads, led_all, same_lead, stays}
 use Rattle.second_office.proofs.typed.Typed.first_of.Goals as goal
-use Rattle.second_office.proofs.typed.Typed.first_of.Goals.{then-team-pot+then-is-earlier, then-team-pot+else-is-earlier, else-team-pot}
+use Rattle.second_office.proofs.typed.Typed.first_of.Goals.{then-team-pot+then-is_earlier, then-team-pot+else-is_earlier, else-team-pot}
 
 pub loop-team-preserved : goal.loop-team-preserved
 loop-team-preserved c =
@@ -14,12 +14,12 @@ loop-team-preserved c =
     let led = c.loop-team.invariant in
     let sooner : Option ℕ → Bool = λ place. earlier place earliest in
     elim c.if-team-pot.branch [
-      | then-team-pot+then-is-earlier w ↦
-          same_lead s pot (team + 1) _ _ _ _ w.first-is (w.earliest-is ∙ w.place-of-place.ensures)
-          (leads s pot team first earliest led c.loop-team-test.true w.if-team-pot.true (ap sooner (sym w.place-of-place.ensures) ∙ sym w.if-is-earlier.ensures))
-      | then-team-pot+else-is-earlier w ↦
+      | then-team-pot+then-is_earlier w ↦
+          same_lead s pot (team + 1) _ _ _ _ w.first-is (w.earliest-is ∙ w.place_of-place.ensures)
+          (leads s pot team first earliest led c.loop-team-test.true w.if-team-pot.true (ap sooner (sym w.place_of-place.ensures) ∙ sym w.if-is_earlier.ensures))
+      | then-team-pot+else-is_earlier w ↦
           same_lead s pot (team + 1) _ _ _ _ w.first-is w.earliest-is
-          (stays s pot team first earliest led (λ of_pot. ap sooner (sym w.place-of-place.ensures) ∙ sym w.if-is-earlier.ensures))
+          (stays s pot team first earliest led (λ of_pot. ap sooner (sym w.place_of-place.ensures) ∙ sym w.if-is_earlier.ensures))
       | else-team-pot w ↦ same_lead s pot (team + 1) _ _ _ _ w.first-is w.earliest-is (stays s pot team first earliest led (λ of_pot. absurd (w.if-team-pot.false of_pot)))
     ]
 

@@ -6,8 +6,8 @@ use Rattle.sheets.proofs.sheet.Sheet.all_named.Goals as goal
 pub loop-team-init : goal.loop-team-init
 loop-team-init c = all_none _
 
-pub returns-then-is-none : goal.returns-then-is-none
-returns-then-is-none c = sym (all_not _ 96 c.loop-team.team (omega arith) (grind (arith, nat_tests)))
+pub returns-then-is_none : goal.returns-then-is_none
+returns-then-is_none c = sym (all_not _ 96 c.loop-team.team (omega arith) (grind (arith, nat_tests)))
 
 pub loop-team-preserved : goal.loop-team-preserved
 loop-team-preserved c = all_more _ _ c.loop-team.invariant (grind (arith, nat_tests))

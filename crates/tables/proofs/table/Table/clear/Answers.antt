@@ -2,8 +2,8 @@ use Rattle.std.proofs.Common.{◌<◌, length, refl, ◌∙◌, arith, length-se
 use Rattle.tables.proofs.Seated.{clear_single, clear_lettered, seat_past}
 use Rattle.tables.proofs.table.Table.clear.Goals as goal
 
-pub invariant-of-self : goal.invariant-of-self
-invariant-of-self c =
+pub invariant_of-self : goal.invariant_of-self
+invariant_of-self c =
     let t = c.args.self.now in
     let low : c.args.team < length t.seats = omega (arith, t.whole) in
     (length-set t.seats _ _ ∙ t.whole, (clear_single t.seats c.args.team low t.single, (clear_lettered t.seats c.args.team low t.lettered, tt)))

@@ -6,8 +6,8 @@ use Rattle.tables.proofs.table.Table.of.Goals as goal
 none_seated : (s : List (Option ℕ)) → s ≡ replicate 96 None → (n : ℕ) → seat_of s n ≡ None
 none_seated s e n = ap (λ (x : List (Option ℕ)). seat_of x n) e ∙ seat_empty n
 
-pub invariant-of-result : goal.invariant-of-result
-invariant-of-result c =
+pub invariant_of-result : goal.invariant_of-result
+invariant_of-result c =
     let none = none_seated c.args.seats c.requires in
     (ap length c.requires, ((λ m n h. absurd (none_some _ h.1.0 (none m) h.1.1)), ((λ n g e. absurd (none_some _ g (none n) e)), tt)))
 

@@ -2,8 +2,8 @@ use Rattle.std.proofs.Common.{◌<◌, length, ◌∙◌, arith, length-set}
 use Rattle.tables.proofs.Seated.{put_single, put_lettered}
 use Rattle.tables.proofs.table.Table.put.Goals as goal
 
-pub invariant-of-self : goal.invariant-of-self
-invariant-of-self c =
+pub invariant_of-self : goal.invariant_of-self
+invariant_of-self c =
     let t = c.args.self.now in
     let low : c.args.team < length t.seats = omega (arith, t.whole, c.requires.team) in (
       length-set t.seats _ _ ∙ t.whole,
