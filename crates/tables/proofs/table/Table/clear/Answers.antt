@@ -6,7 +6,11 @@ pub invariant_of-self : goal.invariant_of-self
 invariant_of-self c =
     let t = c.args.self.now in
     let low : c.args.team < length t.seats = omega (arith, t.whole) in
-    (length-set t.seats _ _ ∙ t.whole, (clear_single t.seats c.args.team low t.single, (clear_lettered t.seats c.args.team low t.lettered, tt)))
+    record {
+      whole = length-set t.seats _ _ ∙ t.whole;
+      single = clear_single t.seats c.args.team low t.single;
+      lettered = clear_lettered t.seats c.args.team low t.lettered;
+    }
 
 pub returns-else-team-lt96 : goal.returns-else-team-lt96
 returns-else-team-lt96 c = let t = c.args.self.now in record { here = seat_past t.seats c.args.team t.whole c.if-team-lt96.false; others = λ m ne. refl }

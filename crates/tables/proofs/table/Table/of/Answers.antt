@@ -9,7 +9,11 @@ none_seated s e n = ap (λ (x : List (Option ℕ)). seat_of x n) e ∙ seat_empt
 pub invariant_of-result : goal.invariant_of-result
 invariant_of-result c =
     let none = none_seated c.args.seats c.requires in
-    (ap length c.requires, ((λ m n h. absurd (none_some _ h.1.0 (none m) h.1.1)), ((λ n g e. absurd (none_some _ g (none n) e)), tt)))
+    record {
+      whole = ap length c.requires;
+      single = λ m n h. absurd (none_some _ h.1.0 (none m) h.1.1);
+      lettered = λ n g e. absurd (none_some _ g (none n) e);
+    }
 
 pub returns : goal.returns
 returns c n = none_seated c.args.seats c.requires n
