@@ -9,15 +9,15 @@ use tables::Table;
 
 // Whether a table is an admissible full draw of a shape. What the law of the rule says of completion stands here too.
 pub fn is_admissible<R: ClashRule>(rule: &R, shape: Shape, table: &Table) -> bool
-    ensures answer { Exactly result (Admissible (admitted rule.now) shape table.now) }
-    ensures completions { Completions (admitted rule.now) }
+    ensures answer { Exactly result (Admissible (R.admitted rule.now) shape table.now) }
+    ensures completions { Completions (R.admitted rule.now) }
 {
     judge(rule, shape, table)
 }
 
 fn judge<R: ClashRule>(rule: &R, shape: Shape, table: &Table) -> bool
-    ensures answer { Exactly result (Admissible (admitted rule.now) shape table.now) }
-    ensures completions { Completions (admitted rule.now) }
+    ensures answer { Exactly result (Admissible (R.admitted rule.now) shape table.now) }
+    ensures completions { Completions (R.admitted rule.now) }
 {
     table.is_full_draw(shape) && rule.admits(table)
 }

@@ -9,7 +9,7 @@ from_front n xs = simp sub-zero
 
 pub returns-then-together : goal.returns-then-together
 returns-then-together c apart =
-    subst (λ (xs : List (ℕ × ℕ)). Apart xs c.args.table.now) (sym (from_front c.args.self.now.listed c.args.self.now.places)) apart c.loop-one.one_Index c.loop-one-test.true c.if-together.ensures
+    subst (λ (xs : List (ℕ × ℕ)). Apart xs c.args.table.now) (sym (from_front c.args.self.now.listed c.args.self.now.places)) apart c.loop-one.one-index c.loop-one-test.true c.if-together.ensures
 
 pub loop-one-preserved : goal.loop-one-preserved
 loop-one-preserved c = below_more _ _ c.loop-one.invariant c.if-together.ensures
