@@ -17,7 +17,7 @@ import time
 import cases
 
 TOP = os.path.dirname(os.path.dirname(os.path.abspath(__file__)))
-PROGRAM = os.path.join(TOP, "target", "bin", "sheet_check")
+PROGRAM = os.path.join(TOP, "crates", "sheet_check", "out", "sheet_check")
 
 
 def inputs():
