@@ -27,7 +27,7 @@ fn add_mate(counts: &mut [[u8; 16]; 65], association: u8, group: u8, most: u8) -
 impl Caps {
     // The rule of these associations, by team number, and of these caps, by association number.
     pub fn new(associations: &[Option<u8>; 96], caps: &[Option<u8>; 65]) -> Caps
-        ensures { result ≡ record { associations = associations.entry.now; caps = caps.now } }
+        ensures { result ≡ record { associations = associations.now; caps = caps.now } }
     {
         Caps {
             associations: *associations,

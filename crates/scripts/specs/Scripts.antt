@@ -1,5 +1,5 @@
 -- Balls that come in orders written down, one for each pot. Assumes nothing.
-use Rattle.std.specs.Prelude.{◌≡◌, ℕ, ◌%◌, ◌<◌, true, ◌↔◌, List, get_or, replicate, Some, None, Option, ◌≢◌, slice_index_or}
+use Rattle.std.specs.Prelude.{◌≡◌, ℕ, ◌%◌, ◌<◌, true, ◌↔◌, List, replicate, Some, None, Option, ◌≢◌, slice_index, slice_index_or}
 use Rattle.shapes.specs.declared.Shape.{Shape}
 use Rattle.shapes.specs.Teams.{HasTeam, Sized, balls_of, pot_of}
 use Rattle.orders.specs.Orders.{OrderOf}
@@ -22,7 +22,7 @@ order_of s pot = row_of (slice_index_or s.orders pot None)
 pub record Stands (row : List ℕ) (pot place team : ℕ) : Type 0 where
   pub within : place < 16
   pub of_pot : pot_of team ≡ pot
-  pub ball : get_or row place 0 ≡ team % 16
+  pub ball : slice_index row place ≡ team % 16
 
 -- the team's ball is the first of its pot's row that is in
 pub record FirstOf (row : List ℕ) (balls : BallSet) (pot team : ℕ) : Type 0 where

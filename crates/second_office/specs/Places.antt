@@ -1,4 +1,4 @@
--- The places of typed numbers: as they are noted, and as balls go out.
+-- The places of typed numbers, as they are noted and as balls go out: lemmas, for proofs. No contract rests on them.
 use Rattle.std.specs.Prelude.{◌≡◌, ℕ, zero, suc, ◌+◌, ◌<◌, ◌≤◌, Bool, true, false, cond, List, [], ◌∷◌, length, replicate, is_some, Some, None, Option, ◌≢◌, nat_lt, slice_index, slice_index_or, slice_set, refl}
 use Rattle.std.proofs.Common.{inl, inr, sym, ap, subst, ◌∙◌, arith, below_more, length-set}
 use Rattle.std.proofs.lemmas.List.{get_or-replicate, get_or-set_other, get_or-set_same}

@@ -2,8 +2,9 @@
 //
 // A rule owes the trait `ClashRule` one definition and one method:
 // - `admitted`, which tables it admits. It stands in specs/Halves.antt, and says nothing of how the answer is found.
-//   It has to meet the trait's law `removal`: an admitted table stays admitted when a placement is taken out. The check
-//   finds the proof by itself; where it does not, the proof goes where that of the source's law `given` stands.
+//   It has to meet the trait's law `removal`: an admitted table stays admitted when a placement is taken out. Its proof
+//   stands in the `impl`, and the check finds it, by `Prim.search`; where it does not, a term goes there, as for the
+//   law `given` of the source.
 // - `admits`, which answers that exactly: yes where the table is admitted, and no where it is not.
 ghost use Rattle.std.specs.Prelude.{◌≡◌};
 ghost use Rattle.shapes.specs.Answers.{Exactly};

@@ -3,8 +3,8 @@
 // A source owes the trait `BallSource` two definitions, which stand in specs/Typing.antt, and two methods:
 // - `holds`, which balls are in, and `answers`, what the source gives and what it is afterwards. They have to meet the
 //   trait's laws: by `given`, a ball that is given was in, is of the pot, and alone is gone; by `refused`, a refusal
-//   comes only where no ball of the pot is in, and changes nothing. The proof of `given` is in
-//   proofs/typed/TypedSource/TheImpl, and the check finds that of `refused` by itself.
+//   comes only where no ball of the pot is in, and changes nothing. The proofs of both stand in the `impl`: that of
+//   `given` cites a lemma of specs/Places.antt, and that of `refused` the check finds, by `Prim.search`.
 // - `holds_ball` and `give`, which answer what the definitions say.
 ghost use Rattle.std.specs.Prelude.{◌≡◌, ◌<◌};
 ghost use Rattle.second_office.specs.Typing.{FirstOf, TypedAnswers, TypedFrom, TypedHolds, earlier, place_of, without};

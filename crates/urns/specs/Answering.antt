@@ -1,4 +1,4 @@
--- What an urn gives, what it starts with, and that it leaves no choice.
+-- What an urn gives, what it starts with, and that it leaves no choice: lemmas, for proofs. No contract rests on them.
 use Rattle.std.specs.Prelude.{◌≡◌, ℕ, true, ◌↔◌, Some, None, refl}
 use Rattle.std.proofs.Common.{sym, ap, ◌∙◌}
 use Rattle.std.proofs.lemmas.Bool.{both_ways}
