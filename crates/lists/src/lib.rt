@@ -21,23 +21,12 @@ impl ListRefusal {
 }
 
 // The first `count` places of `memory` are the entries. The list writes only to the place behind them.
+// The count stands beside the slice, since the engine has no heap: its caller lends all the places at once.
 #[derive(Drop)]
 pub struct List<'a, T> {
     memory: &'a mut [T],
     count: usize,
     ghost ok: { count ≤ length memory.now },
-}
-
-// The entry at `place` of the first `count`.
-fn entry_at<T: Copy>(memory: &[T], count: usize, place: usize) -> Option<T>
-    requires { count ≤ length memory.now }
-    ensures { result ≡ slice_get (entries memory.now count) place }
-{
-    if place < count {
-        Some(memory[place])
-    } else {
-        None
-    }
 }
 
 impl<'a, T: Copy> List<'a, T> {
@@ -48,6 +37,13 @@ impl<'a, T: Copy> List<'a, T> {
         ensures lender { result.memory.ghost_name ≡ memory.entry.ghost_name }
     {
         List { memory, count: 0 }
+    }
+
+    // The entries, in the order in which they were added.
+    fn entries(&self) -> &[T]
+        ensures { result.now ≡ entries self.now.memory.now self.now.count }
+    {
+        &self.memory[..self.count]
     }
 
     // How many entries there are.
@@ -61,7 +57,7 @@ impl<'a, T: Copy> List<'a, T> {
     pub fn get(&self, place: usize) -> Option<T>
         ensures { result ≡ slice_get (entries self.now.memory.now self.now.count) place }
     {
-        entry_at(&*self.memory, self.count, place)
+        self.entries().get(place).copied()
     }
 
     // Adds `entry` behind the others, or refuses where every place is used.
@@ -71,13 +67,12 @@ impl<'a, T: Copy> List<'a, T> {
         ensures count { self.new.count ≡ counted self.old.memory.now self.old.count }
         ensures lender { self.new.memory.ghost_name ≡ self.old.memory.ghost_name }
     {
-        if self.count < self.memory.len() {
-            self.memory[self.count] = entry;
-            self.count += 1;
-            Ok(())
-        } else {
-            Err(ListRefusal::Full)
+        if self.count == self.memory.len() {
+            return Err(ListRefusal::Full);
         }
+        self.memory[self.count] = entry;
+        self.count += 1;
+        Ok(())
     }
 
     // Takes the last entry off, so that the next one added takes its place; none from an empty list.
@@ -87,9 +82,8 @@ impl<'a, T: Copy> List<'a, T> {
         ensures count { self.new.count ≡ self.old.count - 1 }
         ensures lender { self.new.memory.ghost_name ≡ self.old.memory.ghost_name }
     {
-        let place = self.count.saturating_sub(1);
-        let last = self.get(place);
-        self.count = place;
+        let last = self.entries().last().copied();
+        self.count = self.count.saturating_sub(1);
         last
     }
 }
