@@ -14,10 +14,6 @@ refused_text layer number place =
 abbrev pub line_of : Fault → List ℕ
 line_of f = refused_text (layer_number f.layer) f.number f.place
 
--- how many bytes that line has: eleven besides its three numbers
-abbrev pub line_length : Fault → ℕ
-line_length f = 11 + length (decimal (layer_number f.layer)) + length (decimal f.number) + length (decimal f.place)
-
 -- the bytes once a text is laid over their front
 abbrev pub over : List ℕ → List ℕ → List ℕ
 over text bytes = text ++ drop (length text) bytes

@@ -7,6 +7,8 @@ ghost use Rattle.faults.specs.Text.{answered, line_of, written};
 
 mod text;
 
+pub use text::Line;
+
 // The layer that refused.
 #[derive(Clone, Copy, PartialEq, Eq, Debug)]
 pub enum Layer {
@@ -57,14 +59,14 @@ pub fn write_refusal(buf: &mut [u8], at: usize, fault: Fault) -> Result<usize, F
     ensures answer { result ≡ answered buf.old at (line_of fault) }
     ensures after { buf.new ≡ written buf.old at (line_of fault) }
 {
-    let length = text::line_length(fault);
-    if at > buf.len() || length > buf.len() - at {
+    let line = fault.line();
+    if at > buf.len() || line.len() > buf.len() - at {
         return Err(Fault {
             layer: Layer::Text,
             number: TextRefusal::NoRoom.number(),
-            place: length,
+            place: line.len(),
         });
     }
-    text::line_at(buf, at, fault);
-    Ok(length)
+    text::put_text(&mut buf[at..], line.as_str().as_bytes());
+    Ok(line.len())
 }
