@@ -1,5 +1,6 @@
 pub mod Balls
 pub mod Counts
+pub mod Ranges
 pub mod Exact
 pub mod Pigeons
 pub mod Products

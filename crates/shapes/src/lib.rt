@@ -51,20 +51,6 @@ impl Shape {
         ensures count { result ≡ team_count self }
         ensures product { Sized self.groups self.pots → result ≡ self.groups * self.pots }
     {
-        self.teams_below(96)
-    }
-
-    // How many of the numbers below `end` are teams.
-    fn teams_below(self, end: u8) -> u8
-        ensures count { result ≡ count_below (has_team self) end }
-        ensures product { end ≡ 96 → Sized self.groups self.pots → result ≡ self.groups * self.pots }
-    {
-        let mut teams = 0;
-        for team in 0..end {
-            if self.has_team(team) {
-                teams += 1;
-            }
-        }
-        teams
+        (0..96).filter(|&team| self.has_team(team)).count() as u8
     }
 }
