@@ -33,11 +33,8 @@ pub fn mix(number: u64) -> u64
 fn picked(balls: &BallSet, pot: u8, number: u64) -> Option<u8>
     ensures { Picked balls.now pot number result }
 {
-    let count = balls.count(pot);
-    if count == 0 {
-        return None;
-    }
-    balls.with_lower(pot, (number % count as u64) as u8)
+    let lower = number.checked_rem(balls.count(pot) as u64)?;
+    balls.with_lower(pot, lower as u8)
 }
 
 // The balls that are still in, and the number that the next pick steps from.
@@ -45,15 +42,6 @@ fn picked(balls: &BallSet, pot: u8, number: u64) -> Option<u8>
 pub struct Urn {
     number: u64,
     balls: BallSet,
-}
-
-// Every ball of the shape. The theorems of `Urn::new` are shown here, so that `new` has no proof file.
-fn full(shape: Shape) -> BallSet
-    ensures value { result ≡ of_shape shape }
-    ensures teams { (team : ℕ) → (is_in_set result team ≡ true) ↔ HasTeam shape team }
-    ensures decided { Decided }
-{
-    BallSet::of_shape(shape)
 }
 
 impl Urn {
@@ -65,7 +53,7 @@ impl Urn {
     {
         Urn {
             number: seed,
-            balls: full(shape),
+            balls: BallSet::of_shape(shape),
         }
     }
 }

@@ -1,8 +1,11 @@
-use Rattle.std.proofs.Common.{sym, ◌∙◌}
+use Rattle.std.proofs.Common.{◌≡◌, rules}
 use Rattle.std.proofs.lemmas.Bool.{both_ways}
 use Rattle.balls.proofs.Laws.{none_of_pot}
+use Rattle.balls.specs.Sets.{count_in}
 use Rattle.urns.proofs.picked.Goals as goal
 
-pub returns-then-count-eq0 : goal.returns-then-count-eq0
-returns-then-count-eq0 c =
-    λ team of_pot is_in. both_ways _ (none_of_pot c.args.balls.now c.args.pot team (sym c.count-count.ensures ∙ c.if-count-eq0.true) of_pot) is_in
+pub returns-in_err-lower : goal.returns-in_err-lower
+returns-in_err-lower c =
+    let s = c.args.balls.now in
+    let none : count_in s c.args.pot ≡ 0 = search rules in
+    rw c.from_residual.ensures (λ team of_pot is_in. both_ways _ (none_of_pot s c.args.pot team none of_pot) is_in)
