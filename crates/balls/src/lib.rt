@@ -1,7 +1,7 @@
 // The balls that are in, by the number of their team.
 #![tactic(auto)]
 
-ghost use Rattle.std.specs.Prelude.{◌≡◌, ◌+◌, ◌*◌, ◌<◌, ◌≤◌};
+ghost use Rattle.std.specs.Prelude.{◌≡◌};
 ghost use Rattle.balls.specs.Sets.{WithLower, count_in, has_ball, is_in_set, of_shape, without};
 
 use shapes::Shape;

@@ -59,47 +59,35 @@ impl Record {
 pub fn record_at(rest: &[u8], place: usize) -> Result<Record, SheetFault>
     ensures { result ≡ decoded rest.now place }
 {
-    match rest {
-        [b'G', groups, pots, ..] => Ok(Record::Shape {
-            groups: *groups,
-            pots: *pots,
-        }),
+    let cut_short = SheetRefusal::CutShort.at(place);
+    match *rest {
+        [b'G', groups, pots, ..] => Ok(Record::Shape { groups, pots }),
         [b'T', pot, ball, association, a, b, c, ..] => {
             Ok(Record::Team {
-                pot: *pot,
-                ball: *ball,
-                association: *association,
-                code: [*a, *b, *c],
+                pot,
+                ball,
+                association,
+                code: [a, b, c],
             })
         }
-        [b'X', first, second, ..] => Ok(Record::Pair {
-            first: *first,
-            second: *second,
-        }),
-        [b'C', association, most, ..] => Ok(Record::Cap {
-            association: *association,
-            most: *most,
-        }),
+        [b'X', first, second, ..] => Ok(Record::Pair { first, second }),
+        [b'C', association, most, ..] => Ok(Record::Cap { association, most }),
         [b'B', team, high, low, ..] => Ok(Record::Bars {
-            team: *team,
-            barred: u16::from_be_bytes([*high, *low]),
+            team,
+            barred: u16::from_be_bytes([high, low]),
         }),
         [b'U', a, b, c, d, e, f, g, h, ..] => {
             Ok(Record::Seed {
-                seed: u64::from_be_bytes([*a, *b, *c, *d, *e, *f, *g, *h]),
+                seed: u64::from_be_bytes([a, b, c, d, e, f, g, h]),
             })
         }
         [b'S', pot, ..] if rest.len() >= 18 => {
             let mut order = [0; 16];
             order.copy_from_slice(&rest[2..18]);
-            Ok(Record::Script { pot: *pot, order })
+            Ok(Record::Script { pot, order })
         }
         [b'Z', ..] => Ok(Record::End),
-        [] | [b'G' | b'T' | b'X' | b'C' | b'B' | b'U' | b'S', ..] => {
-            // written out: behind a call the proof would not know which of these came
-            let refusal = SheetRefusal::CutShort;
-            Err(SheetFault { refusal, place })
-        }
+        [] | [b'G' | b'T' | b'X' | b'C' | b'B' | b'U' | b'S', ..] => Err(cut_short),
         [_, ..] => Err(SheetRefusal::UnknownKind.at(place)),
     }
 }

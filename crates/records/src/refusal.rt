@@ -4,7 +4,7 @@ ghost use Rattle.records.specs.Refusals.{fault, number_of, raised};
 
 use faults::{Fault, Layer};
 
-#[derive(Clone, Copy)]
+#[derive(Clone, Copy, PartialEq, Eq, Debug)]
 pub enum SheetRefusal {
     UnknownKind,
     CutShort,
@@ -46,7 +46,7 @@ impl SheetRefusal {
 }
 
 // A refusal with the offset in the sheet that it speaks of.
-#[derive(Clone, Copy)]
+#[derive(Clone, Copy, PartialEq, Eq, Debug)]
 pub struct SheetFault {
     pub refusal: SheetRefusal,
     pub place: usize,

@@ -3,7 +3,6 @@
 
 ghost use Rattle.std.specs.Prelude.{◌≡◌, ◌*◌};
 ghost use Rattle.shapes.specs.Answers.{Exactly};
-ghost use Rattle.shapes.specs.Counting.{count_below};
 ghost use Rattle.shapes.specs.Teams.{HasTeam, Sized, Takes, balls_of, has_team, shape_of, team_count};
 
 // 1 to 16 groups and 1 to 6 pots, where it was made by `new`.

@@ -1,9 +1,8 @@
 // Balls that come by chance, from a seed.
 #![tactic(auto)]
 
-ghost use Rattle.std.specs.Prelude.{◌≡◌, ℕ, true, ◌↔◌};
-ghost use Rattle.balls.specs.Sets.{is_in_set, of_shape};
-ghost use Rattle.shapes.specs.Teams.{HasTeam};
+ghost use Rattle.std.specs.Prelude.{◌≡◌};
+ghost use Rattle.balls.specs.Sets.{of_shape};
 ghost use Rattle.urns.specs.SplitMix.{mixed, stepped};
 ghost use Rattle.urns.specs.Urns.{Decided, Picked, Started, UrnAnswers, UrnHolds};
 ghost use Rattle.urns.specs.Answering.{urn_gave};
