@@ -1,7 +1,7 @@
 // The clash rule of bars: no placed team stands in a group that is barred to it.
 #![tactic(auto)]
 
-ghost use Rattle.std.specs.Prelude.{◌≡◌, ◌<◌};
+ghost use Rattle.std.specs.Prelude.{◌≡◌};
 ghost use Rattle.bars.specs.Barred.{Barred, BarsAdmit, HasBit, Respected};
 ghost use Rattle.shapes.specs.Answers.{Exactly};
 ghost use Rattle.std.proofs.Common.{rules};
@@ -16,11 +16,11 @@ pub struct Bars {
     barred: [Option<u16>; 96],
 }
 
+// Whether bit g of a number is set: no bit past 15 is.
 fn has_bit(groups: u16, group: u8) -> bool
-    requires { group < 16 }
     ensures { Exactly result (HasBit groups group) }
 {
-    (groups >> group) % 2 == 1
+    group < 16 && (groups >> group) % 2 == 1
 }
 
 impl Bars {
@@ -31,36 +31,24 @@ impl Bars {
         Bars { barred: *barred }
     }
 
+    // Whether a group is barred to a team.
     fn is_barred(&self, team: u8, group: u8) -> bool
-        requires { (team < 96) × (group < 16) }
         ensures { Exactly result (Barred self.now team group) }
     {
-        match self.barred[team as usize] {
-            Some(groups) => has_bit(groups, group),
-            None => false,
-        }
+        self.barred
+            .get(team as usize)
+            .copied()
+            .flatten()
+            .is_some_and(|groups| has_bit(groups, group))
     }
 
-    // Whether no team stands in a group that is barred to it.
-    fn all_respected(&self, table: &Table) -> bool
-        ensures { Exactly result (BarsAdmit self.now table.now) }
-    {
-        for team in 0..96 {
-            if !self.is_respected(table, team) {
-                return false;
-            }
-        }
-        true
-    }
-
+    // Whether a team stands in no group that is barred to it.
     fn is_respected(&self, table: &Table, team: u8) -> bool
-        requires { team < 96 }
         ensures { Exactly result (Respected self.now table.now team) }
     {
-        match table.group_of(team) {
-            Some(group) => !self.is_barred(team, group),
-            None => true,
-        }
+        table
+            .group_of(team)
+            .is_none_or(|group| !self.is_barred(team, group))
     }
 }
 
@@ -70,6 +58,6 @@ impl ClashRule for Bars {
     ghost removal = { Prim.search rules };
 
     fn admits(&self, table: &Table) -> bool {
-        self.all_respected(table)
+        (0..96).all(|team| self.is_respected(table, team))
     }
 }

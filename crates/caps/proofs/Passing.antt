@@ -1,9 +1,8 @@
 -- What the counts say as the teams are gone through.
-use Rattle.std.proofs.Common.{◌≡◌, ℕ, ◌+◌, ◌<◌, ◌≤◌, Bool, true, false, cond, ltb, List, [], length, get_or, set, replicate, Some, None, MatchBool, sym, refl, ap, ◌∙◌, subst, inl, inr, arith, length-set}
+use Rattle.std.proofs.Common.{◌≡◌, ℕ, ◌+◌, ◌<◌, ◌≤◌, ltb, List, [], length, get_or, set, replicate, Some, None, sym, refl, ap, ◌∙◌, subst, inl, inr, arith, length-set}
 use Rattle.std.proofs.lemmas.List.{get_or_past, get_or-replicate, get_or-set_other, get_or-set_same, length-replicate}
 use Rattle.std.proofs.lemmas.Bool.{cases_eq, cases_lt, cond-false, le-ltb}
 use Rattle.shapes.proofs.Counts.{count_no, count_none, count_up, count_yes}
-use Rattle.shapes.specs.Answers.{Exactly}
 use Rattle.shapes.specs.Counting.{count_below}
 use Rattle.tables.proofs.Seated.{none_some, some_same}
 use Rattle.tables.specs.Tables.{group_of}
@@ -58,7 +57,7 @@ module _ (counts : List (List ℕ)) (a g v : ℕ) (low : a < length counts) wher
     | inr q ↦ ap (λ (row : List ℕ). get_or row h 0) (row_other b q)
   ]
 
-pub cap_low : (c : Caps) (a most : ℕ) → cap_of c a ≡ Some most → a < 65
+cap_low : (c : Caps) (a most : ℕ) → cap_of c a ≡ Some most → a < 65
 cap_low c a most capped = elim (cases_lt a 65) [
   | inl low ↦ low
   | inr past ↦ absurd (none_some (cap_of c a) most (cond-false (ltb a 65) _ None (le-ltb a 65 past)) capped)
@@ -93,16 +92,22 @@ module _ (c : Caps) (t : Table) where
     others : (b h : ℕ) → (a ≡ b → g ≡ h → ⊥) → count_below (is_mate c t b h) (n + 1) ≡ count_below (is_mate c t b h) n
     others b h ne = count_no (is_mate c t b h) n (no_mate c t b h n (λ p q. ne (some_same _ a b of p) (some_same _ g h in_group q)))
 
+    -- there is a row for it
+    row : a < length counts
+    row = elim (cases_lt a (length counts)) [
+      | inl low ↦ low
+      | inr past ↦ absurd (omega (arith, s.rows a (cap_low c a most capped), ap length (get_or_past counts a [] past)))
+    ]
+
     -- there is room for it
-    counted : length counts ≡ 65 → g < 16 → entry_at counts a g < most → Counted c t (with_mate counts a g) (n + 1)
-    counted long letter room =
+    pub counted : g < 16 → entry_at counts a g < most → Counted c t (with_mate counts a g) (n + 1)
+    counted letter room =
         let v = entry_at counts a g + 1 in
-        let low : a < length counts = omega (arith, cap_low c a most capped) in
         let inside : g < length (get_or counts a []) = omega (arith, s.rows a (cap_low c a most capped)) in
         let before = s.exact a g most capped in
         let Right : ℕ → ℕ → Type 0 = λ b h. (k : ℕ) → cap_of c b ≡ Some k → (entry_at (written counts a g v) b h ≡ count_below (is_mate c t b h) (n + 1)) × (count_below (is_mate c t b h) (n + 1) ≤ k) in
-        let here : Right a g = λ k cap-of. (entry_here counts a g v low inside ∙ ap (λ (x : ℕ). x + 1) before ∙ sym one_more, omega (arith, one_more, some_same _ most k capped cap-of)) in
-        let elsewhere : (b h : ℕ) → (a ≡ b → g ≡ h → ⊥) → Right b h = λ b h ne k cap-of. (entry_other counts a g v low b h ne ∙ s.exact b h k cap-of ∙ sym (others b h ne), omega (arith, others b h ne, s.within b h k cap-of)) in
+        let here : Right a g = λ k cap-of. (entry_here counts a g v row inside ∙ ap (λ (x : ℕ). x + 1) before ∙ sym one_more, omega (arith, one_more, some_same _ most k capped cap-of)) in
+        let elsewhere : (b h : ℕ) → (a ≡ b → g ≡ h → ⊥) → Right b h = λ b h ne k cap-of. (entry_other counts a g v row b h ne ∙ s.exact b h k cap-of ∙ sym (others b h ne), omega (arith, others b h ne, s.within b h k cap-of)) in
         let all : (b h : ℕ) → Right b h = λ b h. elim (cases_eq a b) [
           | inl e ↦ elim (cases_eq g h) [
             | inl q ↦ subst (λ (x : ℕ). Right x h) e (subst (Right a) q here)
@@ -111,18 +116,12 @@ module _ (c : Caps) (t : Table) where
           | inr ne ↦ elsewhere b h (λ e _. ne e)
         ] in
         record {
-          rows = λ b under. row_length counts a g v low b ∙ s.rows b under;
+          rows = λ b under. row_length counts a g v row b ∙ s.rows b under;
           exact = λ b h k cap-of. (all b h k cap-of).0;
           within = λ b h k cap-of. (all b h k cap-of).1;
         }
 
     -- the group is full of the association
-    refused : n < 96 → most ≤ entry_at counts a g → CapsAdmit c t → ⊥
+    pub refused : n < 96 → most ≤ entry_at counts a g → CapsAdmit c t → ⊥
     refused low full admitted =
         omega (arith, s.exact a g most capped, one_more, count_up (is_mate c t a g) (n + 1) 96 (omega arith), admitted a g most capped)
-
-    -- it is counted, or the table is not admitted
-    pub settled : length counts ≡ 65 → g < 16 → n < 96 → (r : Bool) → Exactly r (entry_at counts a g < most) → (after : List (List ℕ)) → after ≡ cond r (with_mate counts a g) counts
-        → MatchBool r (Counted c t after (n + 1)) (CapsAdmit c t → ⊥)
-    settled long letter low true room after e = subst (λ (x : List (List ℕ)). Counted c t x (n + 1)) (sym e) (counted long letter room)
-    settled long letter low false full after e = refused low (omega (arith, full))

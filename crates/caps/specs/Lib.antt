@@ -1,3 +1,4 @@
 pub mod Caps
+pub mod Capped
 pub mod Pass
 pub mod Mates

@@ -2,6 +2,7 @@
 #![tactic(auto)]
 
 mod caps;
+mod mates;
 mod rule;
 
 pub use caps::Caps;

@@ -1,7 +1,5 @@
 // What the rule admits.
-ghost use Rattle.std.specs.Prelude.{◌≡◌, ◌≤◌, length};
-ghost use Rattle.shapes.specs.Answers.{Exactly};
-ghost use Rattle.pairs.specs.Listed.{Listing, PairsAdmit, pairs_of};
+ghost use Rattle.pairs.specs.Listed.{Listing, PairsAdmit};
 ghost use Rattle.tables.proofs.Removal.{together_before};
 
 use crate::pairs::Pairs;
@@ -16,29 +14,10 @@ impl Pairs {
         if list.len() > 64 {
             return None;
         }
-        Some(Pairs::of(list))
-    }
-
-    fn of(list: &[(u8, u8)]) -> Pairs
-        requires { length list.now ≤ 64 }
-        ensures { pairs_of result ≡ list.now }
-    {
         let listed = list.len();
         let mut places = [(0, 0); 64];
-        places[0..listed].copy_from_slice(list);
-        Pairs { places, listed }
-    }
-
-    // Whether no listed pair has both its teams in one group.
-    fn keeps_apart(&self, table: &Table) -> bool
-        ensures { Exactly result (PairsAdmit self.now table.now) }
-    {
-        for (one, other) in &self.places[0..self.listed] {
-            if table.together(*one, *other) {
-                return false;
-            }
-        }
-        true
+        places[..listed].copy_from_slice(list);
+        Some(Pairs { places, listed })
     }
 }
 
@@ -48,6 +27,11 @@ impl ClashRule for Pairs {
     ghost removal = { λ rule before team after out apart i low both. apart i low (together_before before team after out _ _ both) };
 
     fn admits(&self, table: &Table) -> bool {
-        self.keeps_apart(table)
+        for &(one, other) in &self.places[..self.listed] {
+            if table.together(one, other) {
+                return false;
+            }
+        }
+        true
     }
 }

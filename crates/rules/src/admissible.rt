@@ -8,14 +8,8 @@ use shapes::Shape;
 use tables::Table;
 
 // Whether a table is an admissible full draw of a shape. What the law of the rule says of completion stands here too.
+#[tactic(auto, using(tables::proofs::Completing::completions))]
 pub fn is_admissible<R: ClashRule>(rule: &R, shape: Shape, table: &Table) -> bool
-    ensures answer { Exactly result (Admissible (R.admitted rule.now) shape table.now) }
-    ensures completions { Completions (R.admitted rule.now) }
-{
-    judge(rule, shape, table)
-}
-
-fn judge<R: ClashRule>(rule: &R, shape: Shape, table: &Table) -> bool
     ensures answer { Exactly result (Admissible (R.admitted rule.now) shape table.now) }
     ensures completions { Completions (R.admitted rule.now) }
 {

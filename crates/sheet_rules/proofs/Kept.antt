@@ -1,6 +1,5 @@
 -- The parts of a sheet's rule, in terms of the record.
-use Rattle.std.proofs.Common.{◌≡◌, ℕ, ◌-◌, ◌<◌, ◌≤◌, min, ◌&&◌, ◌↔◌, List, length, get_or, take, None, Option, sym, ap, ◌∙◌, subst, inl, inr, arith, take_all}
-use Rattle.std.proofs.lemmas.Bool.{cases_lt}
+use Rattle.std.proofs.Common.{◌≡◌, ℕ, ◌<◌, ◌≤◌, ◌&&◌, ◌↔◌, List, get_or, None, Option, sym, ap, subst}
 use Rattle.shapes.proofs.Counts.{count_same}
 use Rattle.tables.specs.declared.table.Table.{Table}
 use Rattle.caps.specs.Caps.{CapsAdmit, is_mate, is_this, mates_in, stands_in}
@@ -8,14 +7,6 @@ use Rattle.caps.specs.declared.caps.Caps.{Caps}
 use Rattle.sheets.specs.Entrants.{association_of}
 use Rattle.sheets.specs.declared.sheet.Sheet.{Sheet}
 use Rattle.sheet_rules.specs.SheetRules.{CapsKept, sheet_mates}
-
--- of a list, as many from the front as it has, and no more
-pub front_few : {X : Type 0} (xs : List X) (n m : ℕ) → length xs ≡ 64 → m ≡ min n 64 → take (m - 0) xs ≡ take n xs
-front_few xs n m size e =
-    elim (cases_lt n 64) [
-      | inl low ↦ let q : m - 0 ≡ n = omega arith in ap (λ k. take k xs) q
-      | inr past ↦ let q : length xs ≤ m - 0 = omega arith in let r : length xs ≤ n = omega arith in take_all (m - 0) xs q ∙ sym (take_all n xs r)
-    ]
 
 module _ (s : Sheet) (associations : List (Option ℕ)) (agree : (n : ℕ) → n < 96 → get_or associations n None ≡ association_of s n) (t : Table) where
   caps_made : Caps

@@ -1,11 +1,14 @@
 -- Full draws, number by number.
-use Rattle.std.proofs.Common.{◌≡◌, ℕ, ◌<◌, Some, None, Option, sym, refl, ap, ◌∙◌, subst, inl, inr}
+use Rattle.std.proofs.Common.{◌≡◌, ℕ, ◌<◌, ◌≤◌, Bool, true, false, length, get_or, Some, None, Option, MatchBool, MatchOption, arith, sym, refl, ◌∙◌, subst, inl, inr}
 use Rattle.std.proofs.lemmas.Bool.{cases_lt}
+use Rattle.std.proofs.lemmas.Slice.Zip.{get_or-zip, length-zip}
+use Rattle.std.specs.List.{AllWithin, HoldsAt, zip}
+use Rattle.shapes.specs.Answers.{Exactly}
 use Rattle.shapes.specs.declared.Shape.{Shape}
 use Rattle.shapes.specs.Teams.{HasTeam, Takes, pot_of}
 use Rattle.tables.specs.declared.table.Table.{Table}
 use Rattle.tables.specs.Draws.{ContainedIn, FullDraw, Settled}
-use Rattle.tables.specs.Tables.{group_of}
+use Rattle.tables.specs.Tables.{SeatedAt, group_of}
 use Rattle.tables.proofs.Seated.{none_some, some_same, cases_some, seat_past}
 
 settled_placed : (s : Shape) (n : ℕ) (o : Option ℕ) → Settled s n o → HasTeam s n → (g : ℕ) × (o ≡ Some g) × Takes s (pot_of n) g
@@ -37,6 +40,25 @@ module _ (s : Shape) (t : Table) where
       (has, subst (Takes s (pot_of n)) (some_same (group_of t n) p.0 g p.1 e) p.2))
       (λ has e. let p = full.every n has in none_some (group_of t n) p.0 e p.1)
 
+-- what the one table has here, the other has
+abbrev pub Kept : Option ℕ × Option ℕ → Type 0
+Kept p = (g : ℕ) → p.1 ≡ Some g → p.0 ≡ Some g
+
+-- the two tables' entries side by side: only numbers below 96 have to be looked at
+module _ (t u : Table) where
+  beside : (n : ℕ) → n < 96 → get_or (zip t.seats u.seats) n (None, None) ≡ (group_of t n, group_of u n)
+  beside n low = get_or-zip t.seats u.seats n (None, None) (omega (arith, t.whole)) (omega (arith, u.whole))
+
+  long : length (zip t.seats u.seats) ≡ 96
+  long = omega (arith, length-zip t.seats u.seats, t.whole, u.whole)
+
+  pub contained_answer : (r : Bool) → MatchBool r (AllWithin Kept (zip t.seats u.seats) 0 (length (zip t.seats u.seats))) ((k : ℕ) × (k < length (zip t.seats u.seats)) × HoldsAt (λ p. Kept p → ⊥) (zip t.seats u.seats) k) → Exactly r (ContainedIn u t)
+  contained_answer true all = λ n g e. elim (cases_lt n 96) [
+    | inl low ↦ subst Kept (beside n low) (all n (None, None) (omega arith) (omega (arith, long))) g e
+    | inr past ↦ absurd (none_some (group_of u n) g (seat_past u.seats n u.whole past) e)
+  ]
+  contained_answer false (k, within, never) = λ part. never (None, None) (subst Kept (sym (beside k (omega (arith, within, long)))) (part k))
+
 -- each contained in the other
 pub same_placements : (t u : Table) → ContainedIn t u → ContainedIn u t → (n : ℕ) → group_of t n ≡ group_of u n
 same_placements t u there back n =
@@ -48,13 +70,12 @@ same_placements t u there back n =
       | inr p ↦ p.1 ∙ sym (there n p.0 p.1)
     ]
 
--- only numbers below 96 have to be looked at
-pub contained_from : (t u : Table) → ((n : ℕ) → n < 96 → (g : ℕ) → group_of t n ≡ Some g → group_of u n ≡ Some g) → ContainedIn t u
-contained_from t u all n g e =
-    elim (cases_lt n 96) [
-      | inl low ↦ all n low g e
-      | inr past ↦ absurd (none_some (group_of t n) g (seat_past t.seats n t.whole past) e)
-    ]
-
-pub contained_equal : (t u : Table) → t ≡ u → ContainedIn t u
-contained_equal t u e n g p = ap (λ (x : Table). group_of x n) (sym e) ∙ p
+-- the first number below 96 that stands there, or none
+pub seated_from : (t : Table) (pot g : ℕ) (o : Option ℕ)
+    → MatchOption o ((n : ℕ) → 0 ≤ n → n < 96 → (pot_of n ≡ pot) × (group_of t n ≡ Some g) → ⊥) (λ n. (0 ≤ n) × (n < 96) × ((pot_of n ≡ pot) × (group_of t n ≡ Some g)) × ((k : ℕ) → 0 ≤ k → k < n → (pot_of k ≡ pot) × (group_of t k ≡ Some g) → ⊥))
+    → SeatedAt t pot g o
+seated_from t pot g None none = λ n in_pot e. elim (cases_lt n 96) [
+  | inl low ↦ none n (omega arith) low (in_pot, e)
+  | inr past ↦ none_some (group_of t n) g (seat_past t.seats n t.whole past) e
+]
+seated_from t pot g (Some n) found = found.2

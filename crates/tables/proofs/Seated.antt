@@ -1,8 +1,7 @@
 -- What one entry more, or one less, leaves of the others.
-use Rattle.std.proofs.Common.{◌≡◌, ℕ, ◌<◌, ◌≤◌, ◌⊎◌, List, length, set, replicate, Some, None, Option, sym, refl, ap, ◌∙◌, subst, inl, inr, arith}
+use Rattle.std.proofs.Common.{◌≡◌, ℕ, ◌<◌, ◌≤◌, ◌⊎◌, List, length, set, replicate, Some, None, Option, sym, refl, ◌∙◌, subst, inl, inr, arith}
 use Rattle.std.proofs.lemmas.List.{get_or-set_same, get_or-set_other, get_or-replicate, get_or_past}
 use Rattle.std.proofs.lemmas.Bool.{cases_eq, cases_lt}
-use Rattle.shapes.specs.Teams.{pot_of}
 use Rattle.tables.specs.Seats.{seat_of, OnePerPot, Lettered}
 
 pub some_same : (o : Option ℕ) (a b : ℕ) → o ≡ Some a → o ≡ Some b → a ≡ b
@@ -18,6 +17,10 @@ cases_some (Some k) = inr (k, refl)
 pub seat_past : (s : List (Option ℕ)) (n : ℕ) → length s ≡ 96 → 96 ≤ n → seat_of s n ≡ None
 seat_past s n size h = let past : length s ≤ n = omega arith in get_or_past s n None past
 
+-- a number with a group is one of the 96
+pub seat_low : (s : List (Option ℕ)) (n g : ℕ) → length s ≡ 96 → seat_of s n ≡ Some g → n < 96
+seat_low s n g size e = elim (cases_lt n 96) [ inl low ↦ low | inr past ↦ absurd (none_some (seat_of s n) g (seat_past s n size past) e) ]
+
 pub seat_empty : (n : ℕ) → seat_of (replicate 96 None) n ≡ None
 seat_empty n = elim (cases_lt n 96) [ inl h ↦ get_or-replicate 96 n None None h | inr h ↦ get_or_past (replicate 96 None) n None h ]
 
@@ -28,38 +31,13 @@ module _ (s : List (Option ℕ)) (n : ℕ) (low : n < length s) where
   pub seat_other : (o : Option ℕ) (m : ℕ) → (m ≡ n → ⊥) → seat_of (set s n o) m ≡ seat_of s m
   seat_other o m ne = get_or-set_other s n m o None ne
 
-  -- where a team stands once n stands in g
-  pub after_put : (g m k : ℕ) → seat_of (set s n (Some g)) m ≡ Some k → ((m ≡ n) × (k ≡ g)) ⊎ ((m ≡ n → ⊥) × (seat_of s m ≡ Some k))
-  after_put g m k e =
-      elim (cases_eq m n) [
-        | inl same ↦ inl (same, some_same _ k g (subst (λ (x : ℕ). seat_of (set s n (Some g)) x ≡ Some k) same e) (seat_here (Some g)))
-        | inr other ↦ inr (other, sym (seat_other (Some g) m other) ∙ e)
-      ]
-
-  -- and once it stands nowhere
+  -- where a team stands once n stands nowhere
   pub after_clear : (m k : ℕ) → seat_of (set s n None) m ≡ Some k → seat_of s m ≡ Some k
   after_clear m k e =
       elim (cases_eq m n) [
         | inl same ↦ absurd (none_some _ k (seat_here None) (subst (λ (x : ℕ). seat_of (set s n None) x ≡ Some k) same e))
         | inr other ↦ sym (seat_other None m other) ∙ e
       ]
-
-  pub put_single : (g : ℕ) → OnePerPot s → ((m : ℕ) → pot_of m ≡ pot_of n → seat_of s m ≡ Some g → ⊥) → OnePerPot (set s n (Some g))
-  put_single g one free u v (pot, (k, a, b)) =
-      elim (after_put g u k a) [
-        | inl p ↦ elim (after_put g v k b) [
-          | inl q ↦ p.0 ∙ sym q.0
-          | inr q ↦ absurd (free v (sym pot ∙ ap pot_of p.0) (q.1 ∙ ap Some p.1))
-        ]
-        | inr p ↦ elim (after_put g v k b) [
-          | inl q ↦ absurd (free u (pot ∙ ap pot_of q.0) (p.1 ∙ ap Some q.1))
-          | inr q ↦ one u v (pot, (k, p.1, q.1))
-        ]
-      ]
-
-  pub put_lettered : (g : ℕ) → g < 16 → Lettered s → Lettered (set s n (Some g))
-  put_lettered g small low m k e =
-      elim (after_put g m k e) [ inl p ↦ subst (λ (x : ℕ). x < 16) (sym p.1) small | inr p ↦ low m k p.1 ]
 
   pub clear_single : OnePerPot s → OnePerPot (set s n None)
   clear_single one u v (pot, (k, a, b)) = one u v (pot, (k, after_clear u k a, after_clear v k b))

@@ -11,11 +11,11 @@ impl Table {
         ensures answer { Exactly result (Placeable self.old team group) }
         ensures after { MatchBool result (With self.old team group self.new) (self.new ≡ self.old) }
     {
-        let can = self.can_place(team, group);
-        if can {
-            self.put(team, group);
+        if !self.can_place(team, group) {
+            return false;
         }
-        can
+        self.seats[team as usize] = Some(group);
+        true
     }
 
     // Takes the placement of a team off, and tells which group it had; none where it was not placed.
@@ -23,9 +23,9 @@ impl Table {
         ensures answer { result ≡ group_of self.old team }
         ensures after { Without self.old team self.new }
     {
-        let group = self.group_of(team);
-        self.clear(team);
-        group
+        let group = self.group_of(team)?;
+        self.seats[team as usize] = None;
+        Some(group)
     }
 
     fn can_place(&self, team: u8, group: u8) -> bool
@@ -35,20 +35,5 @@ impl Table {
             && group < 16
             && self.group_of(team).is_none()
             && self.team_at(team / 16, group).is_none()
-    }
-
-    fn put(&mut self, team: u8, group: u8)
-        requires { Placeable self.old team group }
-        ensures { With self.old team group self.new }
-    {
-        self.seats[team as usize] = Some(group);
-    }
-
-    fn clear(&mut self, team: u8)
-        ensures { Without self.old team self.new }
-    {
-        if team < 96 {
-            self.seats[team as usize] = None;
-        }
     }
 }

@@ -3,7 +3,7 @@ ghost use Rattle.tables.specs.Seats.{Lettered, OnePerPot, Whole};
 
 // By team number, the group in which the team stands. Nothing else is in it, so that two tables with the same
 // placements are the same value.
-#[derive(Clone, Copy)]
+#[derive(Clone, Copy, PartialEq, Eq, Debug)]
 pub struct Table {
     pub(crate) seats: [Option<u8>; 96],
     ghost whole: { Whole seats },

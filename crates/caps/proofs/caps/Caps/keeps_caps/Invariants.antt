@@ -1,5 +1,0 @@
-use Rattle.caps.specs.Pass.{Counted}
-use Rattle.caps.proofs.caps.Caps.keeps_caps.Given as goal
-
-abbrev pub invariant-loop-team : goal.invariant-loop-team
-invariant-loop-team l = Counted l.self l.table l.counts l.team
