@@ -1,45 +1,21 @@
--- The steps of a loop that tests each number below another.
-use Rattle.std.proofs.Common.{◌≡◌, ℕ, zero, suc, ◌+◌, ◌<◌, Bool, true, false, Decides, refl, subst, ⊎_elim, add-one, arith}
-use Rattle.std.proofs.lemmas.Bool.{and_from, and_left, and_right, or_from, or_left, or_right, cases_eq}
-use Rattle.std.proofs.lemmas.Bool.Decides.{Decides-below_and, Decides-below_or}
+-- What the tests of each number below another say together.
+use Rattle.std.proofs.Common.{◌≡◌, ℕ, ◌<◌, Bool, true, Decides, refl}
+use Rattle.std.proofs.lemmas.Bool.Decides.{Decides-below_and, Decides-below_or, same_from_decides}
 use Rattle.orders.specs.Below.{all_below, any_below}
 
-module _ (p : ℕ → Bool) where
-  pub all_none : all_below p 0 ≡ true
+module _ (p : ℕ → Bool) (P : ℕ → Type 0) (each : (k : ℕ) → Decides (p k) (P k)) (n : ℕ) where
+  pub decides_all : Decides (all_below p n) ((k : ℕ) → k < n → P k)
   unfolding all_below
-  all_none = refl
+  decides_all = Decides-below_and p P (all_below p) each refl (λ _. refl) n
 
-  pub all_more : (i : ℕ) → all_below p i ≡ true → p i ≡ true → all_below p (i + 1) ≡ true
-  unfolding all_below
-  all_more i h t = rw add-one (and_from (p i) (all_below p i) t h)
-
-  pub all_not : (n k : ℕ) → k < n → p k ≡ false → all_below p n ≡ false
-  unfolding all_below
-  all_not zero k h f = absurd (omega arith)
-  all_not (suc n) k h f =
-      ⊎_elim (λ e. and_left (p n) (all_below p n) (subst (λ j. p j ≡ false) e f))
-      (λ ne. and_right (p n) (all_below p n) (all_not n k (omega arith) f)) (cases_eq k n)
-
-  pub any_none : any_below p 0 ≡ false
+  pub decides_any : Decides (any_below p n) ((k : ℕ) × (k < n) × P k)
   unfolding any_below
-  any_none = refl
+  decides_any = Decides-below_or p P (any_below p) each refl (λ _. refl) n
 
-  pub any_more : (i : ℕ) → any_below p i ≡ false → p i ≡ false → any_below p (i + 1) ≡ false
-  unfolding any_below
-  any_more i h f = rw add-one (or_from (p i) (any_below p i) f h)
+-- an answer to each of the tests, or to some of them, is what they say together
+module _ (p : ℕ → Bool) (n : ℕ) (r : Bool) where
+  pub all_told : Decides r ((k : ℕ) → k < n → p k ≡ true) → r ≡ all_below p n
+  all_told h = same_from_decides r (all_below p n) h (decides_all p (λ k. p k ≡ true) (λ k. (λ t. t, λ t. t)) n)
 
-  pub any_found : (n k : ℕ) → k < n → p k ≡ true → any_below p n ≡ true
-  unfolding any_below
-  any_found zero k h t = absurd (omega arith)
-  any_found (suc n) k h t =
-      ⊎_elim (λ e. or_left (p n) (any_below p n) (subst (λ j. p j ≡ true) e t))
-      (λ ne. or_right (p n) (any_below p n) (any_found n k (omega arith) t)) (cases_eq k n)
-
-  -- what the tests say together
-  pub decides_all : (P : ℕ → Type 0) → ((k : ℕ) → Decides (p k) (P k)) → (n : ℕ) → Decides (all_below p n) ((k : ℕ) → k < n → P k)
-  unfolding all_below
-  decides_all P each n = Decides-below_and p P (all_below p) each refl (λ _. refl) n
-
-  pub decides_any : (P : ℕ → Type 0) → ((k : ℕ) → Decides (p k) (P k)) → (n : ℕ) → Decides (any_below p n) ((k : ℕ) × (k < n) × P k)
-  unfolding any_below
-  decides_any P each n = Decides-below_or p P (any_below p) each refl (λ _. refl) n
+  pub any_told : Decides r ((k : ℕ) × (k < n) × (p k ≡ true)) → r ≡ any_below p n
+  any_told h = same_from_decides r (any_below p n) h (decides_any p (λ k. p k ≡ true) (λ k. (λ t. t, λ t. t)) n)

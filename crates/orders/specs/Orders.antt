@@ -2,14 +2,18 @@
 use Rattle.std.specs.Prelude.{◌≡◌, ℕ, ◌<◌, ◌≤◌, Bool, cond, not, ◌&&◌, List, ◌==◌, ◌≢◌, nat_eq, nat_le, nat_lt, slice_index}
 use Rattle.orders.specs.Below.{all_below, any_below}
 
--- the first places, as many as the pot has balls, have each ball once, and 255 stands behind them;
--- more than sixteen balls have no order in sixteen bytes
+-- the first places, as many as the pot has balls, have each ball once, and 255 stands behind them
 pub record OrderOf (balls : ℕ) (order : List ℕ) : Type 0 where
-  pub few : balls ≤ 16
   pub ball : (i : ℕ) → i < balls → slice_index order i < balls
   pub each_ball : (b : ℕ) → b < balls → (i : ℕ) × (i < balls) × (slice_index order i ≡ b)
   pub once : (i j : ℕ) → i < balls → j < i → slice_index order j ≢ slice_index order i
   pub rest : (i : ℕ) → balls ≤ i → i < 16 → slice_index order i ≡ 255
+
+-- one place of it: a ball of the pot that did not come before, or 255 after the last ball
+pub record InPlace (balls : ℕ) (order : List ℕ) (i : ℕ) : Type 0 where
+  pub ball : i < balls → slice_index order i < balls
+  pub once : i < balls → (j : ℕ) → j < i → slice_index order j ≢ slice_index order i
+  pub rest : balls ≤ i → slice_index order i ≡ 255
 
 -- The test of it, place by place
 
@@ -24,5 +28,6 @@ in_place balls o i = cond (nat_lt i balls) (nat_lt (slice_index o i) balls && no
 abbrev pub all_in_place : ℕ → List ℕ → Bool
 all_in_place balls o = all_below (in_place balls o) 16
 
+-- more than sixteen balls have no order in sixteen bytes
 abbrev pub is_order : ℕ → List ℕ → Bool
 is_order balls o = nat_le balls 16 && all_in_place balls o

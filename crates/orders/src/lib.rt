@@ -2,48 +2,33 @@
 #![tactic(auto)]
 
 ghost use Rattle.std.specs.Prelude.{◌≡◌, ◌<◌, ◌≤◌, Decides};
-ghost use Rattle.orders.specs.Orders.{OrderOf, stands_before, in_place, all_in_place, is_order};
+ghost use Rattle.orders.specs.Orders.{InPlace, OrderOf, all_in_place, is_order};
 
-// Whether the byte at a place stands at an earlier place too.
-fn stands_before(order: &[u8; 16], place: usize) -> bool
-    requires { place < 16 }
-    ensures { result ≡ stands_before order.now place }
-{
-    for earlier in 0..place {
-        if order[earlier] == order[place] {
-            return true;
-        }
-    }
-    false
-}
-
+// Whether a ball of the pot stands at a place for the first time, or 255 behind the last ball.
 fn in_place(order: &[u8; 16], place: usize, balls: u8) -> bool
     requires { place < 16 }
-    ensures { result ≡ in_place balls order.now place }
+    ensures { Decides result (InPlace balls order.now place) }
 {
-    if place < balls as usize {
-        order[place] < balls && !stands_before(order, place)
+    let ball = order[place];
+    if place < usize::from(balls) {
+        ball < balls && !order[..place].contains(&ball)
     } else {
-        order[place] == 255
+        ball == 255
     }
 }
 
-fn all_in_place(order: &[u8; 16], balls: u8) -> bool
+// Whether each byte is in its place. That makes them an order where there are at most 16 balls.
+pub fn all_in_place(order: &[u8; 16], balls: u8) -> bool
     ensures test { result ≡ all_in_place balls order.now }
     ensures exact { balls ≤ 16 → Decides result (OrderOf balls order.now) }
 {
-    for place in 0..16 {
-        if !in_place(order, place, balls) {
-            return false;
-        }
-    }
-    true
+    (0..16).all(|place| in_place(order, place, balls))
 }
 
 // Whether the bytes are an order of so many balls; of more than 16 they never are.
 pub fn is_order(order: &[u8; 16], balls: u8) -> bool
     ensures test { result ≡ is_order balls order.now }
-    ensures exact { Decides result (OrderOf balls order.now) }
+    ensures exact { Decides result ((balls ≤ 16) × OrderOf balls order.now) }
 {
     balls <= 16 && all_in_place(order, balls)
 }

@@ -1,17 +1,17 @@
 -- The tests of a record, and the conditions that they decide.
-use Rattle.std.proofs.Common.{◌≡◌, ℕ, ◌+◌, ◌*◌, ◌<◌, ◌≤◌, Bool, true, false, cond, not, ◌&&◌, ◌||◌, eqb, ltb, ◌⊎◌, List, length, get_or, is_some, Some, None, Decides, Option, sym, refl, ap, ◌∙◌, inl, inr, ⊎_elim, arith}
-use Rattle.std.proofs.lemmas.Bool.{true≢false, cases_lt, cases_order, cond-true, lt-ltb}
+use Rattle.std.proofs.Common.{◌≡◌, ℕ, ◌+◌, ◌*◌, ◌<◌, Bool, true, false, cond, not, ◌&&◌, ◌||◌, eqb, ltb, ◌⊎◌, List, length, get_or, is_some, Some, None, Decides, Option, sym, refl, ap, ◌∙◌, inl, inr, ⊎_elim, arith}
+use Rattle.std.proofs.lemmas.Bool.{true≢false, cases_lt, cond-true, lt-ltb}
 use Rattle.std.proofs.lemmas.Bool.Decides.{nat_tests, Decides-at, Decides-like, Decides-not, Decides-and, Decides-ltb, Decides-eqb}
 use Rattle.shapes.specs.declared.Shape.{Shape}
 use Rattle.shapes.specs.Teams.{Sized, balls_of, HasTeam, has_team}
 use Rattle.shapes.proofs.Balls.{ball_number, balls_few}
-use Rattle.shapes.proofs.Pigeons.{onto}
+use Rattle.orders.proofs.Scans.{decides_all, decides_any}
+use Rattle.orders.proofs.Deciding.{decides_order}
 use Rattle.records.specs.declared.item.Record.{Record}
 use Rattle.records.specs.declared.item.Record.TheVariants.{Shape as ShapeRecord, Team, Pair, Cap, Bars, Seed, Script, End}
 use Rattle.sheets.specs.Entrants.{code_in, association_in, code_of, association_of}
-use Rattle.sheets.specs.Taking.{is_shape, fits, repeated, crowded, ordered, bars_fit, stands_before, in_place, is_order, named, scripted, scripted_in, all_named, any_script, all_scripts, has_source, is_whole}
-use Rattle.sheets.proofs.Scans.{decides_all, decides_any}
-use Rattle.reading.specs.Format.{said, found, team_in, cap_in, bars_in, seed_in, script_in, pairs_in, OrderOf, Fits, Fresh, Room, Ordered, IsShape, Whole, FromUrn, FromScripts}
+use Rattle.sheets.specs.Taking.{is_shape, fits, repeated, crowded, ordered, bars_fit, named, scripted, scripted_in, all_named, any_script, all_scripts, has_source, is_whole}
+use Rattle.reading.specs.Format.{said, found, team_in, cap_in, bars_in, seed_in, script_in, pairs_in, Fits, Fresh, Room, Ordered, IsShape, Whole, FromUrn, FromScripts}
 use Rattle.reading.proofs.Saying.{get_or_each}
 
 clash : {P : Type 0} → false ≡ true → P
@@ -125,61 +125,6 @@ decides_room sh rs (Bars n g) = decides_yes
 decides_room sh rs (Seed x) = decides_yes
 decides_room sh rs (Script pot o) = decides_yes
 decides_room sh rs End = decides_yes
-
--- a byte of an order is in its place
-abbrev InPlace : ℕ → List ℕ → ℕ → Type 0
-InPlace balls o i =
-    (i < balls → (get_or o i 0 < balls) × ((j : ℕ) → j < i → get_or o j 0 ≡ get_or o i 0 → ⊥)) × (balls ≤ i → get_or o i 0 ≡ 255)
-
-decides_before : (o : List ℕ) (i : ℕ) → Decides (stands_before o i) ((j : ℕ) × (j < i) × (get_or o j 0 ≡ get_or o i 0))
-decides_before o i = decides_any (λ j. eqb (get_or o j 0) (get_or o i 0)) (λ j. get_or o j 0 ≡ get_or o i 0) (λ j. Decides-eqb (get_or o j 0) (get_or o i 0)) i
-
-decides_place : (balls : ℕ) (o : List ℕ) (i : ℕ) → Decides (in_place balls o i) (InPlace balls o i)
-decides_place balls o i =
-    let no = Decides-not (stands_before o i) (decides_before o i) in
-    ⊎_elim
-    (λ l. (
-      λ h. (
-        λ _. (grind (arith, nat_tests), λ j k e. no.0 (grind (arith, nat_tests)) (j, k, e)),
-        λ g. absurd (omega arith),
-      ),
-      λ p. let b = p.0 l in let c = no.1 (λ q. b.1 q.0 q.1 q.2) in grind (arith, nat_tests),
-    ))
-    (λ g. (
-      λ h. (λ l. absurd (omega arith), λ _. grind (arith, nat_tests)),
-      λ p. let e = p.1 g in grind (arith, nat_tests),
-    ))
-    (cases_lt i balls)
-
--- each place in order
-abbrev AllInPlace : ℕ → List ℕ → Type 0
-AllInPlace balls o = (i : ℕ) → i < 16 → InPlace balls o i
-
-apart_places : (balls : ℕ) (o : List ℕ) → balls ≤ 16 → AllInPlace balls o → (i j : ℕ) → i < balls → j < balls → get_or o i 0 ≡ get_or o j 0 → i ≡ j
-apart_places balls o few h i j bi bj e =
-    elim (cases_order i j) [
-      | inl same ↦ same
-      | inr rest ↦ elim rest [
-        | inl l ↦ absurd (((h j (omega arith)).0 bj).1 i l e)
-        | inr l ↦ absurd (((h i (omega arith)).0 bi).1 j l (sym e))
-      ]
-    ]
-
-order_from : (balls : ℕ) (o : List ℕ) → balls ≤ 16 → AllInPlace balls o → OrderOf balls o
-order_from balls o few h =
-    let ball : (i : ℕ) → i < balls → get_or o i 0 < balls = λ i b. ((h i (omega arith)).0 b).0 in
-    record {
-      ball = ball;
-      each_ball = onto balls (λ i. get_or o i 0) ball (apart_places balls o few h);
-      once = λ i j b k e. ((h i (omega arith)).0 b).1 j k e;
-      rest = λ i g l. (h i l).1 g;
-    }
-
-decides_order : (balls : ℕ) (o : List ℕ) → balls ≤ 16 → Decides (is_order balls o) (OrderOf balls o)
-decides_order balls o few =
-    Decides-like (is_order balls o) (order_from balls o few)
-    (λ p i l. (λ b. (p.ball i b, λ j k e. p.once i j b k e), λ g. p.rest i g l))
-    (decides_all (in_place balls o) (InPlace balls o) (decides_place balls o) 16)
 
 pub decides_ordered : (sh : Shape) (r : Record) → Sized sh.groups sh.pots → Decides (ordered sh r) (Ordered sh r)
 decides_ordered sh (ShapeRecord g p) z = decides_yes

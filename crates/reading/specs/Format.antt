@@ -4,6 +4,7 @@ use Rattle.std.specs.Prelude.{◌≡◌, ℕ, ◌+◌, ◌-◌, ◌*◌, ◌^◌
 use Rattle.std.specs.List.{range_with_len}
 use Rattle.shapes.specs.declared.Shape.{Shape}
 use Rattle.shapes.specs.Teams.{Sized, balls_of, HasTeam}
+use Rattle.orders.specs.Orders.{OrderOf}
 use Rattle.records.specs.declared.refusal.SheetFault.{SheetFault}
 use Rattle.records.specs.declared.refusal.SheetRefusal.{SheetRefusal}
 use Rattle.records.specs.declared.refusal.SheetRefusal.TheVariants.{UnknownKind, CutShort, ShapeMisplaced, OutOfRange, Repeated, TooManyPairs, NotAnOrder, BytesAfterEnd, Incomplete}
@@ -145,13 +146,6 @@ said sh rs = record {
 
 abbrev pub Capital : ℕ → Type 0
 Capital x = (65 ≤ x) × (x ≤ 90)
-
--- the first places, as many as the pot has balls, have each ball once, and 255 stands behind them
-pub record OrderOf (balls : ℕ) (order : List ℕ) : Type 0 where
-  pub ball : (i : ℕ) → i < balls → slice_index order i < balls
-  pub each_ball : (b : ℕ) → b < balls → (i : ℕ) × (i < balls) × (slice_index order i ≡ b)
-  pub once : (i j : ℕ) → i < balls → j < i → slice_index order j ≢ slice_index order i
-  pub rest : (i : ℕ) → balls ≤ i → i < 16 → slice_index order i ≡ 255
 
 -- each field is in range
 abbrev pub Fits : Shape → Record → Type 0

@@ -50,9 +50,9 @@ gave s pot ball after a = record {
 -- an order of a pot's balls names each of them
 named : (balls pot team : ℕ) (o : Option (List ℕ)) → HasOrder balls o → pot_of team ≡ pot → team % 16 < balls → (place : ℕ) × Stands (row_of o) pot place team
 named balls pot team (Some order) h e l =
-    let b = h.each_ball (team % 16) l in
+    let b = h.is_order.each_ball (team % 16) l in
     (b.0, record { within = let x = b.1 in let y = h.few in omega arith; of_pot = e; ball = b.2 })
-named balls pot team None h e l = absurd h
+named balls pot team None h e l = absurd h.is_order
 
 pub holds_teams : (shape : Shape) (orders : List (Option (List ℕ))) → Scripted shape orders → HoldsTeams shape (script_of shape orders)
 holds_teams shape orders z team = (

@@ -1,5 +1,5 @@
 -- Balls that come in orders written down, one for each pot. Assumes nothing.
-use Rattle.std.specs.Prelude.{◌≡◌, ℕ, ◌%◌, ◌<◌, true, ◌↔◌, List, replicate, Some, None, Option, ◌≢◌, slice_index, slice_index_or}
+use Rattle.std.specs.Prelude.{◌≡◌, ℕ, ◌%◌, ◌<◌, ◌≤◌, true, ◌↔◌, List, replicate, IsSomeAnd, Some, None, Option, ◌≢◌, slice_index, slice_index_or}
 use Rattle.shapes.specs.declared.Shape.{Shape}
 use Rattle.shapes.specs.Teams.{HasTeam, Sized, balls_of, pot_of}
 use Rattle.orders.specs.Orders.{OrderOf}
@@ -63,9 +63,10 @@ Decided =
 
 -- How a script begins
 
-abbrev pub HasOrder : ℕ → Option (List ℕ) → Type 0
-HasOrder balls (Some order) = OrderOf balls order
-HasOrder balls None = ⊥
+-- there is an order, and it is one of so many balls
+pub record HasOrder (balls : ℕ) (order : Option (List ℕ)) : Type 0 where
+  pub few : balls ≤ 16
+  pub is_order : IsSomeAnd order (OrderOf balls)
 
 -- the shape is one of a draw, and each of its pots has an order of its balls
 pub record Scripted (shape : Shape) (orders : List (Option (List ℕ))) : Type 0 where

@@ -20,13 +20,11 @@ pub struct Script {
     balls: BallSet,
 }
 
+// Whether there is an order, and it is one of so many balls.
 fn has_order(order: &Option<[u8; 16]>, balls: u8) -> bool
     ensures { Decides result (HasOrder balls order.now) }
 {
-    match order {
-        Some(order) => is_order(order, balls),
-        None => false,
-    }
+    matches!(order, Some(order) if is_order(order, balls))
 }
 
 // Whether each pot of the shape has an order of its balls.
@@ -34,24 +32,10 @@ fn all_ordered(shape: Shape, orders: &[Option<[u8; 16]>; 6]) -> bool
     requires { shape.pots ≤ 6 }
     ensures { Decides result ((pot : ℕ) → pot < shape.pots → HasOrder (balls_of shape pot) (slice_index_or orders.now pot None)) }
 {
-    for pot in 0..shape.pots {
-        if !has_order(&orders[pot as usize], shape.balls(pot)) {
-            return false;
-        }
-    }
-    true
-}
-
-// Whether a ball stands at a place of an order.
-fn stands_in(order: &[u8; 16], ball: u8) -> bool
-    ensures { Decides result ((place : ℕ) × (place < 16) × (slice_index order.now place ≡ ball)) }
-{
-    for place in 0..16 {
-        if order[place] == ball {
-            return true;
-        }
-    }
-    false
+    orders
+        .iter()
+        .take(usize::from(shape.pots))
+        .all(|order| has_order(order, shape.groups))
 }
 
 // The team of the first ball of an order that is in.
@@ -59,39 +43,27 @@ fn first_of(order: &[u8; 16], balls: &BallSet, pot: u8) -> Option<u8>
     requires { pot < 6 }
     ensures { MatchOption result (NoneOf order.now balls.now pot) (FirstOf order.now balls.now pot) }
 {
-    for place in 0..16 {
-        let ball = order[place];
-        if ball < 16 && balls.has(16 * pot + ball) {
-            return Some(16 * pot + ball);
-        }
-    }
-    None
+    order
+        .iter()
+        .find(|&&ball| ball < 16 && balls.has(16 * pot + ball))
+        .map(|ball| 16 * pot + ball)
 }
 
 impl Script {
     // The script of a shape in these orders, where each of its pots has an order of its balls.
+    #[tactic(auto, using(crate::specs::Laws::decided))]
     pub fn new(shape: Shape, orders: &[Option<[u8; 16]>; 6]) -> Option<Script>
         ensures made { Made shape orders.now result }
         ensures holds { IfSome result (HoldsTeams shape) }
         ensures decided { Decided }
     {
-        let script = Script::starting(shape, orders);
         if Shape::new(shape.groups, shape.pots).is_some() && all_ordered(shape, orders) {
-            Some(script)
+            Some(Script {
+                orders: *orders,
+                balls: BallSet::of_shape(shape),
+            })
         } else {
             None
-        }
-    }
-
-    // These orders, with each ball of the shape in. The theorems of `new` are shown here, so that `new` has no proof file.
-    fn starting(shape: Shape, orders: &[Option<[u8; 16]>; 6]) -> Script
-        ensures value { result ≡ script_of shape orders.now }
-        ensures holds { Scripted shape orders.now → HoldsTeams shape result }
-        ensures decided { Decided }
-    {
-        Script {
-            orders: *orders,
-            balls: BallSet::of_shape(shape),
         }
     }
 
@@ -100,23 +72,15 @@ impl Script {
         requires { team < 96 }
         ensures { Decides result ((place : ℕ) × At self.now (pot_of team) place team) }
     {
-        match self.orders[team as usize / 16] {
-            Some(order) => stands_in(&order, team % 16),
-            None => false,
-        }
+        matches!(&self.orders[usize::from(team / 16)], Some(order) if order.contains(&(team % 16)))
     }
 
     // The team whose ball comes next from a pot.
     fn first_in(&self, pot: u8) -> Option<u8>
         ensures { MatchOption result (NoneIn ScriptHolds self.now pot) (FirstIn self.now pot) }
     {
-        if pot >= 6 {
-            return None;
-        }
-        match self.orders[pot as usize] {
-            Some(order) => first_of(&order, &self.balls, pot),
-            None => None,
-        }
+        let order = self.orders.get(usize::from(pot)).copied().flatten()?;
+        first_of(&order, &self.balls, pot)
     }
 }
 
@@ -134,10 +98,8 @@ impl BallSource for Script {
     }
 
     fn give(&mut self, pot: u8) -> Option<u8> {
-        let first = self.first_in(pot);
-        if let Some(team) = first {
-            self.balls.take_out(team);
-        }
-        first
+        let team = self.first_in(pot)?;
+        self.balls.take_out(team);
+        Some(team)
     }
 }

@@ -1,7 +1,9 @@
 -- What one more record makes of a sheet record, test by test. Assumes nothing.
-use Rattle.std.specs.Prelude.{ℕ, ◌+◌, ◌*◌, ◌^◌, Bool, true, false, cond, not, ◌&&◌, ◌||◌, List, replicate, is_some, Some, None, Ok, Err, Option, Result, ◌==◌, nat_eq, nat_le, nat_lt, slice_index, slice_index_or, slice_set}
+use Rattle.std.specs.Prelude.{ℕ, ◌+◌, ◌*◌, ◌^◌, Bool, true, false, cond, not, ◌&&◌, ◌||◌, List, replicate, is_some, Some, None, Ok, Err, Option, Result, ◌==◌, nat_le, nat_lt, slice_index, slice_index_or, slice_set}
 use Rattle.shapes.specs.declared.Shape.{Shape}
 use Rattle.shapes.specs.Teams.{balls_of, has_team}
+use Rattle.orders.specs.Below.{all_below, any_below}
+use Rattle.orders.specs.Orders.{all_in_place}
 use Rattle.records.specs.declared.refusal.SheetFault.{SheetFault}
 use Rattle.records.specs.declared.refusal.SheetRefusal.TheVariants.{ShapeMisplaced, OutOfRange, Repeated, TooManyPairs, NotAnOrder}
 use Rattle.records.specs.declared.item.Record.{Record}
@@ -9,7 +11,6 @@ use Rattle.records.specs.declared.item.Record.TheVariants.{Shape as ShapeRecord,
 use Rattle.records.specs.Refusals.{fault}
 use Rattle.sheets.specs.declared.sheet.Sheet.{Sheet}
 use Rattle.sheets.specs.declared.sheet.Entrant.{Entrant}
-use Rattle.sheets.specs.Below.{all_below, any_below}
 use Rattle.sheets.specs.Entrants.{entrant}
 
 -- the record of a shape, of which nothing else is said
@@ -36,17 +37,6 @@ capitals c = capital (slice_index c 0) && (capital (slice_index c 1) && capital 
 -- no bit at or above the number of groups; 16 is the most that two bytes can bar
 abbrev pub bars_fit : ℕ → ℕ → Bool
 bars_fit bits groups = nat_le groups 16 && nat_lt bits (2 ^ groups)
-
--- the byte at place i stands at an earlier place too
-abbrev pub stands_before : List ℕ → ℕ → Bool
-stands_before o i = any_below (λ j. nat_eq (slice_index o j) (slice_index o i)) i
-
--- at place i stands a ball of the pot that did not come before, or 255 after the last ball
-abbrev pub in_place : ℕ → List ℕ → ℕ → Bool
-in_place balls o i = cond (nat_lt i balls) (nat_lt (slice_index o i) balls && not (stands_before o i)) (slice_index o i == 255)
-
-abbrev pub is_order : ℕ → List ℕ → Bool
-is_order balls o = all_below (in_place balls o) 16
 
 -- a record that only the front of a sheet has
 abbrev pub is_shape : Record → Bool
@@ -101,7 +91,7 @@ ordered sh (Pair a b) = true
 ordered sh (Cap a m) = true
 ordered sh (Bars n g) = true
 ordered sh (Seed x) = true
-ordered sh (Script pot o) = is_order (balls_of sh pot) o
+ordered sh (Script pot o) = all_in_place (balls_of sh pot) o
 ordered sh End = true
 
 -- the answer to a record after the first, at a place: its tests in their order
@@ -121,7 +111,7 @@ once o at = cond (is_some o) (Err (fault Repeated at)) (Ok tt)
 abbrev pub once_ordered : Sheet → ℕ → List ℕ → ℕ → Result (Unit {0}) SheetFault
 once_ordered s pot o at =
     cond (is_some (slice_index_or s.scripts pot None)) (Err (fault Repeated at))
-    (cond (is_order (balls_of s.shape pot) o) (Ok tt) (Err (fault NotAnOrder at)))
+    (cond (all_in_place (balls_of s.shape pot) o) (Ok tt) (Err (fault NotAnOrder at)))
 
 -- the sheet record with one thing more
 abbrev pub with_team : Sheet → ℕ → Entrant → Sheet

@@ -1,7 +1,6 @@
 // The sheet record: what a sheet says of the draw, and what one more record makes of it.
 #![tactic(auto)]
 
-mod order;
 mod put;
 mod sheet;
 mod whole;

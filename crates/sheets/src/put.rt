@@ -3,55 +3,50 @@ ghost use Rattle.std.specs.Prelude.{◌≡◌, ◌<◌, length, is_ok, if◌then
 ghost use Rattle.records.specs.Refusals.{fault};
 ghost use Rattle.records.specs.declared.refusal.SheetRefusal.TheVariants.{TooManyPairs};
 ghost use Rattle.sheets.specs.Entrants.{entrant};
-ghost use Rattle.sheets.specs.Taking.{bars_fit, capitals, once, once_ordered, with_pair, with_seed, with_script, verdict, taken};
+ghost use Rattle.sheets.specs.Taking.{bars_fit, capitals, once, once_ordered, with_pair, with_script, verdict, taken};
 
-use crate::order::is_order;
 use crate::sheet::{Entrant, Sheet};
+use orders::all_in_place;
 use records::{Record, SheetFault, SheetRefusal};
 
 fn capitals(code: [u8; 3]) -> bool
     ensures { result ≡ capitals code }
 {
-    match code {
-        [b'A'..=b'Z', b'A'..=b'Z', b'A'..=b'Z'] => true,
-        _ => false,
-    }
+    code.iter().all(u8::is_ascii_uppercase)
 }
 
 // Whether no bit at or above the number of groups is set.
 fn bars_fit(barred: u16, groups: u8) -> bool
     ensures { result ≡ bars_fit barred groups }
 {
-    groups <= 16 && (barred as u32) < (1u32 << groups as u32)
+    groups <= 16 && u32::from(barred) < 1 << groups
 }
 
 // The entrant that a T names: association 0 says that it has none.
 fn entrant_of(association: u8, code: [u8; 3]) -> Entrant
     ensures { result ≡ entrant association code }
 {
-    let association = if association == 0 {
-        None
-    } else {
-        Some(association)
-    };
+    let association = (association != 0).then_some(association);
     Entrant { association, code }
 }
 
-// Fills a slot that may be filled once.
-fn fill_once<T: Copy>(
-    slots: &mut [Option<T>],
-    slot: usize,
-    value: T,
-    place: usize,
-) -> Result<(), SheetFault>
-    requires { slot < length slots.old }
-    ensures answer { result ≡ once (slice_index_or slots.old slot None) place }
-    ensures after { slots.new ≡ (if is_ok result then slice_set slots.old slot (Some value) else slots.old) }
+// Refuses a slot that is filled already.
+fn unfilled<T>(slot: &Option<T>, place: usize) -> Result<(), SheetFault>
+    ensures { result ≡ once slot.now place }
 {
-    if slots[slot].is_some() {
-        return Err(SheetRefusal::Repeated.at(place));
+    match slot {
+        Some(_) => Err(SheetRefusal::Repeated.at(place)),
+        None => Ok(()),
     }
-    slots[slot] = Some(value);
+}
+
+// Fills a slot that may be filled once.
+fn fill_once<T: Copy>(slot: &mut Option<T>, value: T, place: usize) -> Result<(), SheetFault>
+    ensures answer { result ≡ once slot.old place }
+    ensures after { slot.new ≡ (if is_ok result then Some value else slot.old) }
+{
+    unfilled(slot, place)?;
+    *slot = Some(value);
     Ok(())
 }
 
@@ -70,28 +65,15 @@ impl Sheet {
         Ok(())
     }
 
-    fn put_seed(&mut self, seed: u64, place: usize) -> Result<(), SheetFault>
-        ensures answer { result ≡ once self.old.seed place }
-        ensures after { self.new ≡ (if is_ok result then with_seed self.old seed else self.old) }
-    {
-        if self.seed.is_some() {
-            return Err(SheetRefusal::Repeated.at(place));
-        }
-        self.seed = Some(seed);
-        Ok(())
-    }
-
     // Takes an S for a pot of the shape: a second one is refused before the order is looked at.
     fn put_script(&mut self, pot: u8, order: [u8; 16], place: usize) -> Result<(), SheetFault>
         requires { pot < 6 }
         ensures answer { result ≡ once_ordered self.old pot order place }
         ensures after { self.new ≡ (if is_ok result then with_script self.old pot order else self.old) }
     {
-        let slot = pot as usize;
-        if self.scripts[slot].is_some() {
-            return Err(SheetRefusal::Repeated.at(place));
-        }
-        if !is_order(&order, self.shape.balls(pot)) {
+        let slot = usize::from(pot);
+        unfilled(&self.scripts[slot], place)?;
+        if !all_in_place(&order, self.shape.balls(pot)) {
             return Err(SheetRefusal::NotAnOrder.at(place));
         }
         self.scripts[slot] = Some(order);
@@ -112,12 +94,8 @@ impl Sheet {
                 association: association @ 0..=64,
                 code,
             } if ball < shape.balls(pot) && capitals(code) => {
-                fill_once(
-                    &mut self.teams,
-                    (16 * pot + ball) as usize,
-                    entrant_of(association, code),
-                    place,
-                )
+                let team = usize::from(16 * pot + ball);
+                fill_once(&mut self.teams[team], entrant_of(association, code), place)
             }
             Record::Pair { first, second }
                 if first != second && shape.has_team(first) && shape.has_team(second) => {
@@ -126,12 +104,12 @@ impl Sheet {
             Record::Cap {
                 association: association @ 1..=64,
                 most: most @ 1..=6,
-            } => { fill_once(&mut self.caps, association as usize, most, place) }
+            } => { fill_once(&mut self.caps[usize::from(association)], most, place) }
             Record::Bars { team, barred }
                 if shape.has_team(team) && bars_fit(barred, shape.groups) => {
-                fill_once(&mut self.bars, team as usize, barred, place)
+                fill_once(&mut self.bars[usize::from(team)], barred, place)
             }
-            Record::Seed { seed } => self.put_seed(seed, place),
+            Record::Seed { seed } => fill_once(&mut self.seed, seed, place),
             Record::Script {
                 pot: pot @ 0..=5,
                 order,

@@ -1,24 +1,24 @@
 // The caller's sheet record.
-ghost use Rattle.std.specs.Prelude.{◌≡◌};
+ghost use Rattle.std.specs.Prelude.{◌≡◌, if◌then◌else◌, None, nat_lt, slice_index_or};
 ghost use Rattle.sheets.specs.Entrants.{association_of, code_of};
 ghost use Rattle.sheets.specs.Taking.{blank};
 
 use shapes::Shape;
 
 // What a T says of its team. A team has at most one association.
-#[derive(Clone, Copy)]
+#[derive(Clone, Copy, PartialEq, Eq, Debug)]
 pub struct Entrant {
     pub association: Option<u8>,
     pub code: [u8; 3],
 }
 
 // What a sheet says. Every limit is the format's, so the memory is fixed.
-#[derive(Clone, Copy)]
+#[derive(Clone, Copy, PartialEq, Eq, Debug)]
 pub struct Sheet {
     pub shape: Shape,
     // by team number
     pub teams: [Option<Entrant>; 96],
-    // the first `listed`, in the sheet's order
+    // the first `listed`, in the sheet's order; a list that keeps its own length would not be Copy
     pub pairs: [(u8, u8); 64],
     pub listed: usize,
     // by association, from 1
@@ -51,10 +51,7 @@ impl Sheet {
     pub fn code(&self, team: u8) -> [u8; 3]
         ensures { result ≡ code_of self.now team }
     {
-        if team >= 96 {
-            return [b'-'; 3];
-        }
-        match self.teams[team as usize] {
+        match self.entrant(team) {
             Some(entrant) => entrant.code,
             None => [b'-'; 3],
         }
@@ -64,12 +61,12 @@ impl Sheet {
     pub fn association(&self, team: u8) -> Option<u8>
         ensures { result ≡ association_of self.now team }
     {
-        if team >= 96 {
-            return None;
-        }
-        match self.teams[team as usize] {
-            Some(entrant) => entrant.association,
-            None => None,
-        }
+        self.entrant(team).and_then(|entrant| entrant.association)
+    }
+
+    fn entrant(&self, team: u8) -> Option<Entrant>
+        ensures { result ≡ (if nat_lt team 96 then slice_index_or self.now.teams team None else None) }
+    {
+        self.teams.get(usize::from(team)).copied().flatten()
     }
 }

@@ -9,35 +9,24 @@ impl Sheet {
     fn all_named(&self) -> bool
         ensures { result ≡ all_named self.now }
     {
-        for team in 0..96u8 {
-            if self.shape.has_team(team) && self.teams[team as usize].is_none() {
-                return false;
-            }
-        }
-        true
+        let Sheet { shape, teams, .. } = self;
+        (0..96).zip(teams).all(|(team, entrant)| entrant.is_some() || !shape.has_team(team))
     }
 
     fn any_script(&self) -> bool
         ensures { result ≡ any_script self.now }
     {
-        for pot in 0..6usize {
-            if self.scripts[pot].is_some() {
-                return true;
-            }
-        }
-        false
+        self.scripts.iter().any(Option::is_some)
     }
 
     // Whether each pot of the shape has its S.
     fn all_scripts(&self) -> bool
         ensures { result ≡ all_scripts self.now }
     {
-        for pot in 0..6usize {
-            if pot < self.shape.pots as usize && self.scripts[pot].is_none() {
-                return false;
-            }
-        }
-        true
+        self.scripts
+            .iter()
+            .take(usize::from(self.shape.pots))
+            .all(Option::is_some)
     }
 
     // Whether the sheet names one source of balls: a seed alone, or a script for each pot.

@@ -1,13 +1,8 @@
-use Rattle.std.proofs.Common.{sym, arith}
-use Rattle.std.proofs.lemmas.Bool.Decides.{nat_tests}
-use Rattle.sheets.proofs.Scans.{all_none, all_more, all_not}
+use Rattle.std.proofs.Common.{rules}
+use Rattle.std.proofs.iter.runs.Sources.{ranges}
+use Rattle.orders.proofs.Scans.{all_told}
+use Rattle.sheets.specs.Taking.{scripted_in}
 use Rattle.sheets.proofs.sheet.Sheet.all_scripts.Goals as goal
 
-pub loop-pot-init : goal.loop-pot-init
-loop-pot-init c = all_none _
-
-pub returns-then-is_none : goal.returns-then-is_none
-returns-then-is_none c = sym (all_not _ 6 c.loop-pot.pot (omega arith) (grind (arith, nat_tests)))
-
-pub loop-pot-preserved : goal.loop-pot-preserved
-loop-pot-preserved c = all_more _ _ c.loop-pot.invariant (grind (arith, nat_tests))
+pub returns : goal.returns
+returns c = all_told (scripted_in c.args.self.now) 6 c.all.result (search (rules, ranges))

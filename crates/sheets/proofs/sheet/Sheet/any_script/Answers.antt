@@ -1,13 +1,8 @@
-use Rattle.std.proofs.Common.{sym, arith}
-use Rattle.std.proofs.lemmas.Bool.Decides.{nat_tests}
-use Rattle.sheets.proofs.Scans.{any_none, any_more, any_found}
+use Rattle.std.proofs.Common.{rules}
+use Rattle.std.proofs.iter.runs.Sources.{ranges}
+use Rattle.orders.proofs.Scans.{any_told}
+use Rattle.sheets.specs.Taking.{scripted}
 use Rattle.sheets.proofs.sheet.Sheet.any_script.Goals as goal
 
-pub loop-pot-init : goal.loop-pot-init
-loop-pot-init c = any_none _
-
-pub returns-then-is_some : goal.returns-then-is_some
-returns-then-is_some c = sym (any_found _ 6 c.loop-pot.pot (omega arith) (grind (arith, nat_tests)))
-
-pub loop-pot-preserved : goal.loop-pot-preserved
-loop-pot-preserved c = any_more _ _ c.loop-pot.invariant (grind (arith, nat_tests))
+pub returns : goal.returns
+returns c = any_told (scripted c.args.self.now) 6 c.any.result (search (rules, ranges))
