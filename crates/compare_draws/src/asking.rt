@@ -1,56 +1,31 @@
 // The case `urn GROUPS POTS SEED, give POT ..`, and what any ball source is asked.
-use crate::words::{shape_of, words_of};
+use crate::words::{Case, CaseError, shape_of};
 use sources::BallSource;
-use std::io;
 use std::io::Write;
 use urns::Urn;
-
-// Asks for a ball of the pot that a word names, and tells whether it names one.
-fn ask<W: Write, S: BallSource>(out: &mut W, source: &mut S, word: &str) -> io::Result<bool> {
-    let Ok(pot) = word.parse::<u8>() else {
-        return Ok(false);
-    };
-    match source.give(pot) {
-        Some(team) => write!(out, " {team}")?,
-        None => write!(out, " -")?,
-    }
-    Ok(true)
-}
-
-fn write_held<W: Write, S: BallSource>(out: &mut W, source: &S) -> io::Result<()> {
-    write!(out, " in")?;
-    for team in 0..=255u8 {
-        if source.holds_ball(team) {
-            write!(out, " {team}")?;
-        }
-    }
-    Ok(())
-}
 
 // Asks for a ball of each pot in turn, and at the end for every ball.
 pub(crate) fn ask_all<W: Write, S: BallSource>(
     out: &mut W,
     source: &mut S,
-    pots: &str,
-) -> io::Result<bool> {
+    case: Case<'_>,
+) -> Result<(), CaseError> {
     write!(out, "gave")?;
-    for word in pots.split_whitespace() {
-        if !ask(out, source, word)? {
-            return Ok(false);
+    for word in case.words_of("give").split_whitespace() {
+        match source.give(word.parse()?) {
+            Some(team) => write!(out, " {team}")?,
+            None => write!(out, " -")?,
         }
     }
-    write_held(out, source)?;
-    Ok(true)
+    write!(out, " in")?;
+    for team in (0..=255).filter(|team| source.holds_ball(*team)) {
+        write!(out, " {team}")?;
+    }
+    Ok(())
 }
 
-fn urn(head: &str) -> Option<Urn> {
-    let (size, seed) = head.rsplit_once(' ')?;
-    Some(Urn::new(shape_of(size)?, seed.parse::<u64>().ok()?))
-}
-
-pub(crate) fn answer<W: Write>(out: &mut W, head: &str, parts: &str) -> io::Result<bool> {
-    let Some(mut urn) = urn(head) else {
-        return Ok(false);
-    };
-    ask_all(out, &mut urn, words_of(parts, "give"))
+pub(crate) fn answer<W: Write>(out: &mut W, case: Case<'_>) -> Result<(), CaseError> {
+    let (size, seed) = case.head.rsplit_once(' ').ok_or(CaseError::Broken)?;
+    let mut urn = Urn::new(shape_of(size)?, seed.parse()?);
+    ask_all(out, &mut urn, case)
 }

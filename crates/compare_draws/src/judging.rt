@@ -1,110 +1,61 @@
 // The case `rules, pairs TEAM:TEAM .., of TEAM:ASSOCIATION .., caps ASSOCIATION:CAP .., bars TEAM:BITS ..,
 // place TEAM:GROUP ..`: what the clash rules say of a table.
-use crate::words::{said, table_of, two, with_bits, words_of};
+use crate::words::{Case, CaseError, said, table_of, two};
 use bars::Bars;
 use caps::Caps;
 use pairs::Pairs;
 use rules::{Both, ClashRule};
-use std::alloc::{AllocError, Global};
-use std::io;
+use std::alloc::Global;
 use std::io::Write;
+use std::num::ParseIntError;
+use std::str::FromStr;
 use tables::Table;
 
-fn pairs_of(heap: Global, words: &str) -> Result<Option<Vec<(u8, u8)>>, AllocError> {
-    let mut pairs = Vec::new(heap);
-    for word in words.split_whitespace() {
-        let Some(pair) = two(word) else {
-            return Ok(None);
-        };
-        pairs.push(pair)?;
-    }
-    Ok(Some(pairs))
+fn pairs_of(heap: Global, words: &str) -> Result<Vec<(u8, u8)>, CaseError> {
+    words
+        .split_whitespace()
+        .map(|word| two(word, ':'))
+        .try_collect(heap)
 }
 
 // By number, what the words tell of it; the last word decides.
-fn by_number<const N: usize>(words: &str) -> Option<[Option<u8>; N]> {
+fn by_number<T, const N: usize>(words: &str) -> Result<[Option<T>; N], CaseError>
+where
+    T: Copy + FromStr<Err = ParseIntError>,
+{
     let mut found = [None; N];
     for word in words.split_whitespace() {
-        let (number, value) = two(word)?;
-        if number as usize >= N {
-            return None;
-        }
-        found[number as usize] = Some(value);
+        let (number, value) = two::<u8, T>(word, ':')?;
+        let entry = found.get_mut(usize::from(number)).ok_or(CaseError::Broken)?;
+        *entry = Some(value);
     }
-    Some(found)
+    Ok(found)
 }
 
-fn caps_of(parts: &str) -> Option<Caps> {
-    let associations = by_number::<96>(words_of(parts, "of"))?;
-    let caps = by_number::<65>(words_of(parts, "caps"))?;
-    Some(Caps::new(&associations, &caps))
+// What a rule says of a table; a rule that could not be made was refused.
+fn verdict<R: ClashRule>(rule: Option<&R>, table: &Table) -> &'static str {
+    rule.map_or("refused", |rule| said(rule.admits(table)))
 }
 
-fn bars_of(words: &str) -> Option<Bars> {
-    let mut barred = [None; 96];
-    for word in words.split_whitespace() {
-        let (team, groups) = with_bits(word)?;
-        if team >= 96 {
-            return None;
-        }
-        barred[team as usize] = Some(groups);
-    }
-    Some(Bars::new(&barred))
-}
-
-fn limits_of(parts: &str) -> Option<Both<Caps, Bars>> {
-    let first = caps_of(parts)?;
-    let second = bars_of(words_of(parts, "bars"))?;
-    Some(Both { first, second })
-}
-
-fn judge<W: Write, R: ClashRule>(out: &mut W, rule: &R, table: &Table) -> io::Result<()> {
-    write!(out, " {}", said(rule.admits(table)))
-}
-
-fn judge_limits<W: Write>(out: &mut W, limits: &Both<Caps, Bars>, table: &Table) -> io::Result<()> {
-    write!(out, " caps")?;
-    judge(out, &limits.first, table)?;
-    write!(out, " bars")?;
-    judge(out, &limits.second, table)
-}
-
-// What all the rules say; the pairs, and with them all together, are refused where they are too many.
-fn judge_all<W: Write>(
-    out: &mut W,
-    pairs: Option<Pairs>,
-    limits: Both<Caps, Bars>,
-    table: &Table,
-) -> io::Result<()> {
-    write!(out, "pairs")?;
-    let Some(pairs) = pairs else {
-        write!(out, " refused")?;
-        judge_limits(out, &limits, table)?;
-        return write!(out, " all refused");
-    };
-    judge(out, &pairs, table)?;
-    judge_limits(out, &limits, table)?;
-    write!(out, " all")?;
-    judge(
-        out,
-        &Both {
-            first: pairs,
-            second: limits,
+// Of more than 64 pairs no rule is made, and so none of all the rules together.
+pub(crate) fn answer<W: Write>(out: &mut W, heap: Global, case: Case<'_>) -> Result<(), CaseError> {
+    let table = table_of(case.words_of("place"))?;
+    let caps = Caps::new(
+        &by_number(case.words_of("of"))?,
+        &by_number(case.words_of("caps"))?,
+    );
+    let bars = Bars::new(&by_number(case.words_of("bars"))?);
+    let pairs = Pairs::new(pairs_of(heap, case.words_of("pairs"))?.as_slice());
+    write!(out, "pairs {}", verdict(pairs.as_ref(), &table))?;
+    write!(out, " caps {}", verdict(Some(&caps), &table))?;
+    write!(out, " bars {}", verdict(Some(&bars), &table))?;
+    let all = pairs.map(|pairs| Both {
+        first: pairs,
+        second: Both {
+            first: caps,
+            second: bars,
         },
-        table,
-    )
-}
-
-pub(crate) fn answer<W: Write>(out: &mut W, heap: Global, parts: &str) -> io::Result<bool> {
-    let Some(table) = table_of(words_of(parts, "place")) else {
-        return Ok(false);
-    };
-    let Some(limits) = limits_of(parts) else {
-        return Ok(false);
-    };
-    let Some(pairs) = pairs_of(heap, words_of(parts, "pairs"))? else {
-        return Ok(false);
-    };
-    judge_all(out, Pairs::new(pairs.as_slice()), limits, &table)?;
-    Ok(true)
+    });
+    write!(out, " all {}", verdict(all.as_ref(), &table))?;
+    Ok(())
 }

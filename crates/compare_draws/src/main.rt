@@ -12,34 +12,18 @@ mod words;
 use std::alloc::Global;
 use std::io;
 use std::io::{BufRead, BufReader, BufWriter, Write};
+use words::{Case, CaseError};
 
-// Answers a case of any kind, and tells whether it is one.
-fn answer<W: Write>(
-    out: &mut W,
-    heap: Global,
-    kind: &str,
-    head: &str,
-    parts: &str,
-) -> io::Result<bool> {
-    match kind {
-        "mix" => mixing::answer(out, head),
-        "urn" => asking::answer(out, head, parts),
-        "script" => scripting::answer(out, head, parts),
-        "table" => stepping::answer(out, head, parts),
-        "compare" => comparing::answer(out, parts),
-        "rules" => judging::answer(out, heap, parts),
-        _ => Ok(false),
-    }
-}
-
-fn answer_case<W: Write>(out: &mut W, heap: Global, line: &str) -> io::Result<()> {
-    let (first, parts) = words::cut(line, ',');
-    let (kind, head) = words::cut(first, ' ');
-    if answer(out, heap, kind, head, parts)? {
-        writeln!(out)
-    } else {
-        // A broken case shows among the answers.
-        writeln!(out, "bad case")
+// Answers a case of any kind. An enum of the kinds would name each twice, where it is read and where it is answered.
+fn answer<W: Write>(out: &mut W, heap: Global, case: Case<'_>) -> Result<(), CaseError> {
+    match case.kind {
+        "mix" => mixing::answer(out, case),
+        "urn" => asking::answer(out, case),
+        "script" => scripting::answer(out, case),
+        "table" => stepping::answer(out, case),
+        "compare" => comparing::answer(out, case),
+        "rules" => judging::answer(out, heap, case),
+        _ => Err(CaseError::Broken),
     }
 }
 
@@ -48,7 +32,12 @@ fn main(rt: HostRuntime) -> io::Result<()> {
     let mut out = BufWriter::new(heap, rt.stdout())?;
     for line in BufReader::new(heap, rt.stdin())?.lines(heap) {
         let line = line?;
-        answer_case(&mut out, heap, line.as_str())?;
+        match answer(&mut out, heap, Case::of(line.as_str())) {
+            Ok(()) => writeln!(out)?,
+            // A broken case shows among the answers.
+            Err(CaseError::Broken) => writeln!(out, "bad case")?,
+            Err(CaseError::Io(error)) => return Err(error),
+        }
     }
     out.flush()
 }

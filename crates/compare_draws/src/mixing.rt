@@ -1,29 +1,17 @@
 // The case `mix SEED COUNT`: that many outputs of SplitMix64.
-use std::io;
+use crate::words::{Case, CaseError, two};
 use std::io::Write;
+use std::iter;
 use urns::{mix, step};
 
-fn read(head: &str) -> Option<(u64, u16)> {
-    let (seed, count) = head.split_once(' ')?;
-    Some((seed.parse::<u64>().ok()?, count.parse::<u16>().ok()?))
-}
-
-fn write_mixed<W: Write>(out: &mut W, seed: u64, count: u16) -> io::Result<()> {
-    let mut number = seed;
-    for place in 0..count {
-        number = step(number);
+pub(crate) fn answer<W: Write>(out: &mut W, case: Case<'_>) -> Result<(), CaseError> {
+    let (seed, count) = two::<u64, u16>(case.head, ' ')?;
+    let numbers = iter::successors(Some(step(seed)), |number| Some(step(*number)));
+    for (place, number) in numbers.take(usize::from(count)).enumerate() {
         if place > 0 {
             write!(out, " ")?;
         }
         write!(out, "{}", mix(number))?;
     }
     Ok(())
-}
-
-pub(crate) fn answer<W: Write>(out: &mut W, head: &str) -> io::Result<bool> {
-    let Some((seed, count)) = read(head) else {
-        return Ok(false);
-    };
-    write_mixed(out, seed, count)?;
-    Ok(true)
 }

@@ -1,5 +1,5 @@
 // The case `table GROUPS POTS, STEP ..`: one table, changed and asked in turn.
-use crate::words::{cut, said, shape_of, two};
+use crate::words::{Case, CaseError, name_and_words, said, shape_of, two};
 use std::io;
 use std::io::Write;
 use tables::Table;
@@ -15,20 +15,20 @@ enum Step {
 }
 
 // The step that a part names, with the numbers of one of its words.
-fn step_of(what: &str, word: &str) -> Option<Step> {
-    match what {
-        "take" => Some(Step::Take(word.parse::<u8>().ok()?)),
-        "group" => Some(Step::Group(word.parse::<u8>().ok()?)),
-        _ => of_two(what, two(word)?),
+fn step_of(name: &str, word: &str) -> Result<Step, CaseError> {
+    match name {
+        "take" => Ok(Step::Take(word.parse()?)),
+        "group" => Ok(Step::Group(word.parse()?)),
+        _ => of_two(name, two(word, ':')?),
     }
 }
 
-fn of_two(what: &str, (first, second): (u8, u8)) -> Option<Step> {
-    match what {
-        "place" => Some(Step::Place(first, second)),
-        "seat" => Some(Step::Seat(first, second)),
-        "together" => Some(Step::Together(first, second)),
-        _ => None,
+fn of_two(name: &str, (first, second): (u8, u8)) -> Result<Step, CaseError> {
+    match name {
+        "place" => Ok(Step::Place(first, second)),
+        "seat" => Ok(Step::Seat(first, second)),
+        "together" => Ok(Step::Together(first, second)),
+        _ => Err(CaseError::Broken),
     }
 }
 
@@ -49,30 +49,9 @@ fn take_step<W: Write>(out: &mut W, table: &mut Table, step: Step) -> io::Result
     }
 }
 
-// Takes the steps of one part, and tells whether each of its words is one.
-fn take_steps<W: Write>(out: &mut W, table: &mut Table, part: &str) -> io::Result<bool> {
-    let (what, words) = cut(part, ' ');
-    for word in words.split_whitespace() {
-        let Some(step) = step_of(what, word) else {
-            return Ok(false);
-        };
-        take_step(out, table, step)?;
-    }
-    Ok(true)
-}
-
-fn take_all_steps<W: Write>(out: &mut W, table: &mut Table, parts: &str) -> io::Result<bool> {
-    for part in parts.split(',') {
-        if !take_steps(out, table, part.trim())? {
-            return Ok(false);
-        }
-    }
-    Ok(true)
-}
-
 fn write_table<W: Write>(out: &mut W, table: &Table) -> io::Result<()> {
     write!(out, "table")?;
-    for team in 0..=255u8 {
+    for team in 0..=255 {
         if let Some(group) = table.group_of(team) {
             write!(out, " {team}:{group}")?;
         }
@@ -80,15 +59,15 @@ fn write_table<W: Write>(out: &mut W, table: &Table) -> io::Result<()> {
     Ok(())
 }
 
-pub(crate) fn answer<W: Write>(out: &mut W, head: &str, parts: &str) -> io::Result<bool> {
-    let Some(shape) = shape_of(head) else {
-        return Ok(false);
-    };
+pub(crate) fn answer<W: Write>(out: &mut W, case: Case<'_>) -> Result<(), CaseError> {
+    let shape = shape_of(case.head)?;
     let mut table = Table::new();
-    if !take_all_steps(out, &mut table, parts)? {
-        return Ok(false);
+    for (name, words) in case.parts.split(',').map(name_and_words) {
+        for word in words.split_whitespace() {
+            take_step(out, &mut table, step_of(name, word)?)?;
+        }
     }
     write_table(out, &table)?;
     write!(out, " full {}", said(table.is_full_draw(shape)))?;
-    Ok(true)
+    Ok(())
 }

@@ -1,54 +1,91 @@
 // How a case is written: parts between commas, words between spaces, numbers in decimal.
 use shapes::Shape;
+use std::alloc::AllocError;
+use std::io;
+use std::num::ParseIntError;
+use std::str::FromStr;
 use tables::Table;
 
-// The text before a sign and the text behind it, which is empty where the sign does not stand.
-pub(crate) fn cut(text: &str, sign: char) -> (&str, &str) {
-    match text.split_once(sign) {
-        Some(halves) => halves,
-        None => (text, ""),
+// Why a case is not answered to its end: it is broken, or the program cannot go on.
+#[derive(Debug, Drop)]
+pub(crate) enum CaseError {
+    Broken,
+    Io(io::Error),
+}
+
+impl From<ParseIntError> for CaseError {
+    fn from(_error: ParseIntError) -> CaseError {
+        CaseError::Broken
     }
 }
 
-// The words of the first part with this name; none where there is no such part.
-pub(crate) fn words_of<'a>(parts: &'a str, name: &str) -> &'a str {
-    for part in parts.split(',') {
-        let (what, words) = cut(part.trim(), ' ');
-        if what == name {
-            return words;
-        }
+impl From<io::Error> for CaseError {
+    fn from(error: io::Error) -> CaseError {
+        CaseError::Io(error)
     }
-    ""
 }
 
-// The two numbers of a word such as 16:3.
-pub(crate) fn two(word: &str) -> Option<(u8, u8)> {
-    let (first, second) = word.split_once(':')?;
-    Some((first.parse::<u8>().ok()?, second.parse::<u8>().ok()?))
+impl From<AllocError> for CaseError {
+    fn from(error: AllocError) -> CaseError {
+        CaseError::Io(io::Error::from(error))
+    }
 }
 
-// The two numbers of such a word, of which the second may be larger.
-pub(crate) fn with_bits(word: &str) -> Option<(u8, u16)> {
-    let (first, second) = word.split_once(':')?;
-    Some((first.parse::<u8>().ok()?, second.parse::<u16>().ok()?))
+// A line `KIND HEAD, PART, PART ..`.
+#[derive(Clone, Copy)]
+pub(crate) struct Case<'a> {
+    pub kind: &'a str,
+    pub head: &'a str,
+    pub parts: &'a str,
+}
+
+impl<'a> Case<'a> {
+    pub(crate) fn of(line: &'a str) -> Case<'a> {
+        let (first, parts) = line.split_once(',').unwrap_or((line, ""));
+        let (kind, head) = first.split_once(' ').unwrap_or((first, ""));
+        Case { kind, head, parts }
+    }
+
+    // The words of the first part with this name; none where there is no such part.
+    pub(crate) fn words_of(self, name: &str) -> &'a str {
+        self.parts
+            .split(',')
+            .map(name_and_words)
+            .find(|(found, _)| *found == name)
+            .map_or("", |(_, words)| words)
+    }
+}
+
+// A part's name and its words.
+pub(crate) fn name_and_words(part: &str) -> (&str, &str) {
+    let part = part.trim();
+    part.split_once(' ').unwrap_or((part, ""))
+}
+
+// The numbers before and behind a sign, as those of 16:3.
+pub(crate) fn two<A, B>(text: &str, sign: char) -> Result<(A, B), CaseError>
+where
+    A: FromStr<Err = ParseIntError> + Drop,
+    B: FromStr<Err = ParseIntError>,
+{
+    let (first, second) = text.split_once(sign).ok_or(CaseError::Broken)?;
+    Ok((first.parse()?, second.parse()?))
 }
 
 // The shape of so many groups and pots, of any size.
-pub(crate) fn shape_of(words: &str) -> Option<Shape> {
-    let (groups, pots) = words.split_once(' ')?;
-    let groups = groups.parse::<u8>().ok()?;
-    let pots = pots.parse::<u8>().ok()?;
-    Some(Shape { groups, pots })
+pub(crate) fn shape_of(words: &str) -> Result<Shape, CaseError> {
+    let (groups, pots) = two(words, ' ')?;
+    Ok(Shape { groups, pots })
 }
 
 // A table with these placings, as far as it takes them.
-pub(crate) fn table_of(words: &str) -> Option<Table> {
+pub(crate) fn table_of(words: &str) -> Result<Table, CaseError> {
     let mut table = Table::new();
     for word in words.split_whitespace() {
-        let (team, group) = two(word)?;
+        let (team, group) = two(word, ':')?;
         let _ = table.place(team, group);
     }
-    Some(table)
+    Ok(table)
 }
 
 pub(crate) fn said(yes: bool) -> &'static str {

@@ -16,7 +16,20 @@ enum Form {
     Listing,
 }
 
-// The value of a digit of base 16.
+// Why the digits of a case give no sheet.
+#[derive(Clone, Copy, Debug)]
+enum CaseError {
+    Broken,
+    NoMemory(AllocError),
+}
+
+impl From<AllocError> for CaseError {
+    fn from(error: AllocError) -> CaseError {
+        CaseError::NoMemory(error)
+    }
+}
+
+// The value of a digit of base 16. `to_digit` would take capitals too, which no case has.
 fn digit(letter: u8) -> Option<u8>
     ensures { IfSome result (λ value. value < 16) }
 {
@@ -28,23 +41,19 @@ fn digit(letter: u8) -> Option<u8>
 }
 
 // The byte that two digits spell.
-fn byte_of(high: u8, low: u8) -> Option<u8> {
-    Some(16 * digit(high)? + digit(low)?)
+fn byte_of(digits: &[u8]) -> Option<u8> {
+    let [high, low] = digits else {
+        return None;
+    };
+    Some(16 * digit(*high)? + digit(*low)?)
 }
 
-// The bytes that digits spell, two for each, or none where they are not that.
-fn sheet_of(heap: Global, digits: &[u8]) -> Result<Option<Vec<u8>>, AllocError> {
-    let mut sheet = Vec::new(heap);
-    for pair in digits.chunks(2) {
-        let [high, low] = pair else {
-            return Ok(None);
-        };
-        let Some(byte) = byte_of(*high, *low) else {
-            return Ok(None);
-        };
-        sheet.push(byte)?;
-    }
-    Ok(Some(sheet))
+// The bytes that digits spell, two for each.
+fn sheet_of(heap: Global, digits: &[u8]) -> Result<Vec<u8>, CaseError> {
+    digits
+        .chunks(2)
+        .map(|pair| byte_of(pair).ok_or(CaseError::Broken))
+        .try_collect(heap)
 }
 
 fn answer<W: Write>(out: &mut W, form: Form, sheet: &[u8]) -> io::Result<()> {
@@ -56,14 +65,15 @@ fn answer<W: Write>(out: &mut W, form: Form, sheet: &[u8]) -> io::Result<()> {
 }
 
 fn answer_case<W: Write>(out: &mut W, heap: Global, line: &[u8]) -> io::Result<()> {
-    let (form, digits) = match line {
-        [b'l', b'i', b's', b't', b' ', digits @ ..] => (Form::Listing, digits),
-        digits => (Form::Line, digits),
+    let (form, digits) = match line.strip_prefix(b"list ") {
+        Some(digits) => (Form::Listing, digits),
+        None => (Form::Line, line),
     };
-    match sheet_of(heap, digits)? {
-        Some(sheet) => answer(out, form, sheet.as_slice()),
+    match sheet_of(heap, digits) {
+        Ok(sheet) => answer(out, form, sheet.as_slice()),
         // A broken case shows among the answers.
-        None => writeln!(out, "bad case"),
+        Err(CaseError::Broken) => writeln!(out, "bad case"),
+        Err(CaseError::NoMemory(error)) => Err(io::Error::from(error)),
     }
 }
 
@@ -71,8 +81,7 @@ fn main(rt: HostRuntime) -> io::Result<()> {
     let heap = rt.alloc();
     let mut out = BufWriter::new(heap, rt.stdout())?;
     for line in BufReader::new(heap, rt.stdin())?.split(heap, b'\n') {
-        let line = line?;
-        answer_case(&mut out, heap, line.as_slice())?;
+        answer_case(&mut out, heap, line?.as_slice())?;
     }
     out.flush()
 }

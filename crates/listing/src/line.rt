@@ -1,5 +1,6 @@
 // A sheet on one line, for programs that compare answers.
 use crate::words::Code;
+use shapes::Shape;
 use sheets::Sheet;
 use std::fmt;
 use std::fmt::Formatter;
@@ -9,71 +10,66 @@ pub struct Line<'a>(pub &'a Sheet);
 
 impl fmt::Display for Line<'_> {
     fn fmt<W: fmt::Write>(&self, f: &mut Formatter<W>) -> fmt::Result {
-        let sheet = self.0;
-        let groups = sheet.shape.groups;
-        let pots = sheet.shape.pots;
+        let Shape { groups, pots } = self.0.shape;
         write!(f, "ok {groups} {pots}")?;
-        write_teams(f, sheet)?;
-        write_pairs(f, sheet)?;
-        write_caps(f, sheet)?;
-        write_bars(f, sheet)?;
-        write_source(f, sheet)?;
+        self.write_teams(f)?;
+        self.write_pairs(f)?;
+        self.write_caps(f)?;
+        self.write_bars(f)?;
+        self.write_source(f)?;
         writeln!(f)
     }
 }
 
-fn write_teams<W: fmt::Write>(f: &mut Formatter<W>, sheet: &Sheet) -> fmt::Result {
-    for team in 0..96usize {
-        if let Some(entrant) = sheet.teams[team] {
-            let association = entrant.association.unwrap_or(0);
-            write!(f, ", T {team} {association} {}", Code(entrant.code))?;
+impl Line<'_> {
+    fn write_teams<W: fmt::Write>(&self, f: &mut Formatter<W>) -> fmt::Result {
+        for (team, entrant) in self.0.teams.iter().enumerate() {
+            if let Some(entrant) = entrant {
+                let association = entrant.association.unwrap_or(0);
+                write!(f, ", T {team} {association} {}", Code(entrant.code))?;
+            }
         }
+        Ok(())
     }
-    Ok(())
-}
 
-fn write_pairs<W: fmt::Write>(f: &mut Formatter<W>, sheet: &Sheet) -> fmt::Result {
-    for (first, second) in sheet.pairs.iter().take(sheet.listed) {
-        write!(f, ", X {first} {second}")?;
-    }
-    Ok(())
-}
-
-fn write_caps<W: fmt::Write>(f: &mut Formatter<W>, sheet: &Sheet) -> fmt::Result {
-    for association in 1..65usize {
-        if let Some(most) = sheet.caps[association] {
-            write!(f, ", C {association} {most}")?;
+    fn write_pairs<W: fmt::Write>(&self, f: &mut Formatter<W>) -> fmt::Result {
+        for (first, second) in self.0.pairs.iter().take(self.0.listed) {
+            write!(f, ", X {first} {second}")?;
         }
+        Ok(())
     }
-    Ok(())
-}
 
-fn write_bars<W: fmt::Write>(f: &mut Formatter<W>, sheet: &Sheet) -> fmt::Result {
-    for team in 0..96usize {
-        if let Some(barred) = sheet.bars[team] {
-            write!(f, ", B {team} {barred}")?;
+    fn write_caps<W: fmt::Write>(&self, f: &mut Formatter<W>) -> fmt::Result {
+        for (association, cap) in self.0.caps.iter().enumerate().skip(1) {
+            if let Some(most) = cap {
+                write!(f, ", C {association} {most}")?;
+            }
         }
+        Ok(())
     }
-    Ok(())
-}
 
-// The seed, and the script of each pot that has one.
-fn write_source<W: fmt::Write>(f: &mut Formatter<W>, sheet: &Sheet) -> fmt::Result {
-    if let Some(seed) = sheet.seed {
-        write!(f, ", U {seed}")?;
-    }
-    for pot in 0..6u8 {
-        if let Some(order) = sheet.scripts[pot as usize] {
-            write!(f, ", S {pot}")?;
-            write_order(f, order, sheet.shape.balls(pot))?;
+    fn write_bars<W: fmt::Write>(&self, f: &mut Formatter<W>) -> fmt::Result {
+        for (team, bars) in self.0.bars.iter().enumerate() {
+            if let Some(barred) = bars {
+                write!(f, ", B {team} {barred}")?;
+            }
         }
+        Ok(())
     }
-    Ok(())
-}
 
-fn write_order<W: fmt::Write>(f: &mut Formatter<W>, order: [u8; 16], balls: u8) -> fmt::Result {
-    for ball in order.iter().take(usize::from(balls)) {
-        write!(f, " {ball}")?;
+    // The seed, and the script of each pot that has one.
+    fn write_source<W: fmt::Write>(&self, f: &mut Formatter<W>) -> fmt::Result {
+        if let Some(seed) = self.0.seed {
+            write!(f, ", U {seed}")?;
+        }
+        for (pot, script) in (0..6).zip(&self.0.scripts) {
+            if let Some(order) = script {
+                write!(f, ", S {pot}")?;
+                for ball in order.iter().take(usize::from(self.0.shape.balls(pot))) {
+                    write!(f, " {ball}")?;
+                }
+            }
+        }
+        Ok(())
     }
-    Ok(())
 }

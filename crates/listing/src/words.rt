@@ -37,3 +37,37 @@ impl fmt::Display for Count {
         if number == 1 { Ok(()) } else { write!(f, "s") }
     }
 }
+
+// The title of a part, which says so where the part has nothing.
+#[derive(Clone, Copy)]
+pub(crate) struct Heading(pub &'static str, pub bool);
+
+impl fmt::Display for Heading {
+    fn fmt<W: fmt::Write>(&self, f: &mut fmt::Formatter<W>) -> fmt::Result {
+        let Heading(title, any) = *self;
+        write!(f, "{title}:")?;
+        if any { Ok(()) } else { write!(f, " none") }
+    }
+}
+
+// The groups that a team is barred from, by the letters of the bits that are set.
+#[derive(Clone, Copy)]
+pub(crate) struct Letters(pub u16);
+
+impl fmt::Display for Letters {
+    fn fmt<W: fmt::Write>(&self, f: &mut fmt::Formatter<W>) -> fmt::Result {
+        let barred = self.0;
+        if barred == 0 {
+            return write!(f, "in any group");
+        }
+        write!(f, "not in ")?;
+        let groups = (0..16).filter(|group| barred >> *group & 1 == 1);
+        for (place, group) in groups.enumerate() {
+            if place > 0 {
+                write!(f, ", ")?;
+            }
+            write!(f, "{}", Group(group))?;
+        }
+        Ok(())
+    }
+}
