@@ -76,28 +76,16 @@ fn main(rt: HostRuntime) -> io::Result<()> {
     let Some(pairs) = Pairs::new(&[(3, 17)]) else {
         return Ok(());
     };
-    show_rules(
-        &rt,
-        "team 3 in group 0, team 20 in no group",
-        pairs,
-        &[(3, 0)],
-    )?;
-    show_rules(
-        &rt,
-        "team 3 in group 0, team 20 in group 2",
-        pairs,
-        &[(3, 0), (20, 2)],
-    )?;
-    show_rules(
-        &rt,
-        "team 3 in group 0, team 20 in group 3",
-        pairs,
-        &[(3, 0), (20, 3)],
-    )?;
-    show_rules(
-        &rt,
-        "teams 3 and 17 in group 4, team 20 in group 3",
-        pairs,
-        &[(3, 4), (17, 4), (20, 3)],
-    )
+    for (title, placements) in [
+        ("team 3 in group 0, team 20 in no group", &[(3, 0)][..]),
+        ("team 3 in group 0, team 20 in group 2", &[(3, 0), (20, 2)]),
+        ("team 3 in group 0, team 20 in group 3", &[(3, 0), (20, 3)]),
+        (
+            "teams 3 and 17 in group 4, team 20 in group 3",
+            &[(3, 4), (17, 4), (20, 3)],
+        ),
+    ] {
+        show_rules(&rt, title, pairs, placements)?;
+    }
+    Ok(())
 }
