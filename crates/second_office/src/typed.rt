@@ -26,7 +26,7 @@ impl Typed {
         ensures { TypedFrom numbers.now result }
     {
         Typed {
-            places: array::from_fn(|team| first_place(numbers, team)),
+            places: places_of(numbers),
         }
     }
 
@@ -64,6 +64,13 @@ impl BallSource for Typed {
         self.places[usize::from(team)] = None;
         Some(team)
     }
+}
+
+// For each team, the place at which its number stands first.
+fn places_of(numbers: &[u8]) -> [Option<usize>; 96]
+    ensures { TypedFrom numbers.now (record { places = result }) }
+{
+    array::from_fn(|team| first_place(numbers, team))
 }
 
 // Where a number stands first; none where it does not stand.
