@@ -21,6 +21,11 @@ use Rattle.second_office.specs.declared.typed.Typed.{Typed}
 abbrev pub Among : List ℕ → ℕ → Type 0
 Among xs x = (k : ℕ) × (slice_get xs k ≡ Some x)
 
+-- an item of the least key, or none where there is no item
+abbrev pub Least : (ℕ → Option ℕ) → List ℕ → Option ℕ → Type 0
+Least key items None = length items ≡ 0
+Least key items (Some m) = Among items m × ((x : ℕ) → Among items x → is_lt (option_cmp nat_cmp (key x) (key m)) ≡ false)
+
 -- what a filter keeps
 
 front : (b : Bool) (y x : ℕ) (zs : List ℕ) → Among zs x → Among (cond b (y ∷ zs) zs) x
@@ -68,10 +73,7 @@ is_there None m h = absurd h
 is_there (Some x) m e = ap Some e
 
 module _ {S F : Type 0} {steps : S → Option ℕ → S → Type 0} (p : Run steps) (g : Mut F (Bor ℕ × Unit {0}) (Option ℕ)) (f : F) (key : ℕ → Option ℕ) where
-  abbrev pub Least : Option ℕ → Type 0
-  Least found = MatchOption found (length p.items ≡ 0) (λ m. Among p.items m × ((x : ℕ) → Among p.items x → is_lt (option_cmp nat_cmp (key x) (key m)) ≡ false))
-
-  pub least : CallKeepsClosure g f → ActsAsAt g f key → (found : Option ℕ) → MatchOption found (p.len ≡ 0) (λ m. AnyItem p (λ x. x ≡ m) × NoKeyBeyond p g f is_lt (option_cmp nat_cmp) m) → Least found
+  pub least : CallKeepsClosure g f → ActsAsAt g f key → (found : Option ℕ) → MatchOption found (p.len ≡ 0) (λ m. AnyItem p (λ x. x ≡ m) × NoKeyBeyond p g f is_lt (option_cmp nat_cmp) m) → Least key p.items found
   least keeps acts None none = sym p.long ∙ none
   least keeps acts (Some m) (any, beyond) =
       let (k, called, all) = beyond keeps in (
@@ -104,7 +106,7 @@ module _ (s : Typed) (pot : ℕ) where
       | inr past ↦ absurd (both_ways _ (ap is_some (place_past s team past)) held)
     ]
 
-    pub first_found : (found : Option ℕ) → MatchOption found (length items ≡ 0) (λ m. Among items m × ((x : ℕ) → Among items x → is_lt (option_cmp nat_cmp (place_of s x) (place_of s m)) ≡ false)) → FirstOf s pot found
+    pub first_found : (found : Option ℕ) → Least (place_of s) items found → FirstOf s pot found
     first_found None none = λ team of_pot held. no_item items none (listed team of_pot held)
       where
         no_item : (xs : List ℕ) → length xs ≡ 0 → {x : ℕ} → Among xs x → ⊥

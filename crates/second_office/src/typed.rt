@@ -66,7 +66,7 @@ impl BallSource for Typed {
     }
 }
 
-// For each team, the place at which its number stands first.
+// For each team, the place at which its number stands first. It is shown here, so that `new` has no proof file.
 fn places_of(numbers: &[u8]) -> [Option<usize>; 96]
     ensures { TypedFrom numbers.now (record { places = result }) }
 {
