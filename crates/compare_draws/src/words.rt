@@ -7,7 +7,7 @@ use std::str::FromStr;
 use tables::Table;
 
 // Why a case is not answered to its end: it is broken, or the program cannot go on.
-#[derive(Debug, Drop)]
+#[derive(Drop)]
 pub(crate) enum CaseError {
     Broken,
     Io(io::Error),

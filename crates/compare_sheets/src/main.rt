@@ -17,7 +17,7 @@ enum Form {
 }
 
 // Why the digits of a case give no sheet.
-#[derive(Clone, Copy, Debug)]
+#[derive(Clone, Copy)]
 enum CaseError {
     Broken,
     NoMemory(AllocError),

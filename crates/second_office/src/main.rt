@@ -15,8 +15,7 @@ use typed::Typed;
 
 // What a source gives when it is asked for these pots, one after the other.
 fn show_balls<S: BallSource>(rt: &impl Print, source: &mut S, pots: &[u8]) -> io::Result<()> {
-    for pot in pots {
-        let pot = *pot;
+    for &pot in pots {
         match source.give(pot) {
             Some(team) => println!(rt; "pot {pot}: the ball of team {team}")?,
             None => println!(rt; "pot {pot}: refused, none of its balls is in")?,
@@ -27,12 +26,8 @@ fn show_balls<S: BallSource>(rt: &impl Print, source: &mut S, pots: &[u8]) -> io
 
 // Whether a source still has the ball of a team.
 fn show_ball<S: BallSource>(rt: &impl Print, source: &S, team: u8) -> io::Result<()> {
-    let state = if source.holds_ball(team) {
-        "in"
-    } else {
-        "not in"
-    };
-    println!(rt; "the ball of team {team} is {state}")
+    let not = if source.holds_ball(team) { "" } else { "not " };
+    println!(rt; "the ball of team {team} is {not}in")
 }
 
 // What a rule answers on a table.
@@ -42,32 +37,29 @@ fn show_answer<R: ClashRule>(
     rule: &R,
     table: &Table,
 ) -> io::Result<()> {
-    let answer = if rule.admits(table) {
-        "admitted"
-    } else {
-        "not admitted"
-    };
-    println!(rt; "  by {name}: {answer}")
+    let not = if rule.admits(table) { "" } else { "not " };
+    println!(rt; "  by {name}: {not}admitted")
 }
 
-// The table of these placements, each a team and its group; one that cannot be placed is left out.
-fn table_of(placements: &[(u8, u8)]) -> Table {
+// What the rule of this office answers, alone and beside one of the engine's, on the table of these placements, each a
+// team and its group; one that cannot be placed is left out.
+fn show_rules(
+    rt: &impl Print,
+    title: &str,
+    pairs: Pairs,
+    placements: &[(u8, u8)],
+) -> io::Result<()> {
     let mut table = Table::new();
-    for (team, group) in placements {
-        let _placed = table.place(*team, *group);
+    for &(team, group) in placements {
+        let _placed = table.place(team, group);
     }
-    table
-}
-
-// The rule of this office, alone and beside one of the engine's.
-fn show_rules(rt: &impl Print, pairs: Pairs, placements: &[(u8, u8)]) -> io::Result<()> {
-    let table = table_of(placements);
     // Of five groups, 0 to 2 are the first half.
     let same_half = SameHalf::new(3, 20, 5);
     let both = Both {
         first: same_half,
         second: pairs,
     };
+    println!(rt; "{title}:")?;
     show_answer(rt, "same half", &same_half, &table)?;
     show_answer(rt, "same half and pairs", &both, &table)
 }
@@ -84,12 +76,16 @@ fn main(rt: HostRuntime) -> io::Result<()> {
     let Some(pairs) = Pairs::new(&[(3, 17)]) else {
         return Ok(());
     };
-    println!(rt; "team 3 in group 0, team 20 in no group:")?;
-    show_rules(&rt, pairs, &[(3, 0)])?;
-    println!(rt; "team 3 in group 0, team 20 in group 2:")?;
-    show_rules(&rt, pairs, &[(3, 0), (20, 2)])?;
-    println!(rt; "team 3 in group 0, team 20 in group 3:")?;
-    show_rules(&rt, pairs, &[(3, 0), (20, 3)])?;
-    println!(rt; "teams 3 and 17 in group 4, team 20 in group 3:")?;
-    show_rules(&rt, pairs, &[(3, 4), (17, 4), (20, 3)])
+    for (title, placements) in [
+        ("team 3 in group 0, team 20 in no group", &[(3, 0)][..]),
+        ("team 3 in group 0, team 20 in group 2", &[(3, 0), (20, 2)]),
+        ("team 3 in group 0, team 20 in group 3", &[(3, 0), (20, 3)]),
+        (
+            "teams 3 and 17 in group 4, team 20 in group 3",
+            &[(3, 4), (17, 4), (20, 3)],
+        ),
+    ] {
+        show_rules(&rt, title, pairs, placements)?;
+    }
+    Ok(())
 }

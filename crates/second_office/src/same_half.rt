@@ -29,21 +29,11 @@ impl SameHalf {
         SameHalf { one, other, groups }
     }
 
-    // Whether the two teams do not stand in different halves.
-    fn holds_together(&self, table: &Table) -> bool
-        ensures { Exactly result (SameHalfAdmits self.now table.now) }
-    {
-        match (table.group_of(self.one), table.group_of(self.other)) {
-            (Some(one), Some(other)) => self.is_first(one) == self.is_first(other),
-            _ => true,
-        }
-    }
-
     // Whether a group is of the first half.
     fn is_first(&self, group: u8) -> bool
         ensures { result ≡ in_first_half self.now.groups group }
     {
-        group < self.groups - self.groups / 2
+        group < self.groups.div_ceil(2)
     }
 }
 
@@ -53,6 +43,9 @@ impl ClashRule for SameHalf {
     ghost removal = { Prim.search rules };
 
     fn admits(&self, table: &Table) -> bool {
-        self.holds_together(table)
+        match (table.group_of(self.one), table.group_of(self.other)) {
+            (Some(one), Some(other)) => self.is_first(one) == self.is_first(other),
+            _ => true,
+        }
     }
 }

@@ -6,12 +6,13 @@
 //   comes only where no ball of the pot is in, and changes nothing. The proofs of both stand in the `impl`: that of
 //   `given` cites a lemma of specs/Places.antt, and that of `refused` the check finds, by `Prim.search`.
 // - `holds_ball` and `give`, which answer what the definitions say.
-ghost use Rattle.std.specs.Prelude.{◌≡◌, ◌<◌};
-ghost use Rattle.second_office.specs.Typing.{FirstOf, TypedAnswers, TypedFrom, TypedHolds, earlier, place_of, without};
+ghost use Rattle.std.specs.Prelude.{◌≡◌, length};
+ghost use Rattle.second_office.specs.Typing.{FirstOf, FirstPlace, TypedAnswers, TypedFrom, TypedHolds, place_of};
 ghost use Rattle.second_office.specs.Places.{typed_gave};
 ghost use Rattle.std.proofs.Common.{rules};
 
 use sources::BallSource;
+use std::array;
 
 // By team number, the place at which the number was typed first; none where it was not typed, or its ball is out.
 #[derive(Clone, Copy)]
@@ -32,36 +33,16 @@ impl Typed {
     fn place_of(&self, team: u8) -> Option<usize>
         ensures { result ≡ place_of self.now team }
     {
-        if team < 96 {
-            self.places[team as usize]
-        } else {
-            None
-        }
+        self.places.get(usize::from(team)).copied().flatten()
     }
 
     // Of the balls of a pot that are in, the one that was typed first.
     fn first_of(&self, pot: u8) -> Option<u8>
         ensures { FirstOf self.now pot result }
     {
-        let mut first = None;
-        let mut earliest = None;
-        for team in 0..96 {
-            if team / 16 == pot {
-                let place = self.place_of(team);
-                if is_earlier(place, earliest) {
-                    first = Some(team);
-                    earliest = place;
-                }
-            }
-        }
-        first
-    }
-
-    fn take_out(&mut self, team: u8)
-        requires { team < 96 }
-        ensures { self.new ≡ without self.old team }
-    {
-        self.places[team as usize] = None;
+        (0..96)
+            .filter(|team| team / 16 == pot && self.place_of(*team).is_some())
+            .min_by_key(|team| self.place_of(*team))
     }
 }
 
@@ -80,32 +61,23 @@ impl BallSource for Typed {
 
     fn give(&mut self, pot: u8) -> Option<u8> {
         let team = self.first_of(pot)?;
-        self.take_out(team);
+        self.places[usize::from(team)] = None;
         Some(team)
     }
 }
 
-// For each team, the place at which its number stands first.
+// For each team, the place at which its number stands first. It is shown here, so that `new` has no proof file.
 fn places_of(numbers: &[u8]) -> [Option<usize>; 96]
     ensures { TypedFrom numbers.now (record { places = result }) }
 {
-    let mut places = [None; 96];
-    for (place, number) in numbers.iter().enumerate() {
-        let team = *number as usize;
-        if team < 96 && places[team].is_none() {
-            places[team] = Some(place);
-        }
-    }
-    places
+    array::from_fn(|team| first_place(numbers, team))
 }
 
-// Whether a place comes before another; any place comes before none.
-fn is_earlier(place: Option<usize>, other: Option<usize>) -> bool
-    ensures { result ≡ earlier place other }
+// Where a number stands first; none where it does not stand.
+fn first_place(numbers: &[u8], team: usize) -> Option<usize>
+    ensures { FirstPlace numbers.now (length numbers.now) team result }
 {
-    match (place, other) {
-        (None, _) => false,
-        (Some(_), None) => true,
-        (Some(place), Some(other)) => place < other,
-    }
+    numbers
+        .iter()
+        .position(|number| usize::from(*number) == team)
 }

@@ -1,26 +1,12 @@
-use Rattle.std.proofs.Common.{ℕ, ◌+◌, List, Option, sym, refl, subst, arith}
-use Rattle.second_office.specs.Places.{Noted, all_noted, none_noted, noted_before, noted_first}
+use Rattle.std.proofs.Common.{rules, subst, sym, ◌∙◌, length, None, arith}
+use Rattle.second_office.specs.Typing.{FirstPlace}
+use Rattle.second_office.specs.Places.{place_low}
+use Rattle.second_office.proofs.Made.{made}
 use Rattle.second_office.proofs.typed.places_of.Goals as goal
-use Rattle.second_office.proofs.typed.places_of.Goals.{then-team-lt96+then-is_none, else-team-lt96, else-team-lt96-via-then-team-lt96+else-is_none, else-team-lt96-via-else-team-lt96}
-
-pub loop-place-init : goal.loop-place-init
-loop-place-init c = none_noted c.args.numbers.now
-
-pub loop-place-preserved : goal.loop-place-preserved
-loop-place-preserved c =
-    let numbers = c.args.numbers.now in
-    let now = c.loop-place.place in
-    let Next : List (Option ℕ) → Type 0 = Noted numbers (now + 1) in
-    elim c.if-team-lt96.branch [
-      | then-team-lt96+then-is_none w ↦
-          subst Next (sym w.places-is) (noted_first numbers now c.loop-place.places c.loop-place.invariant _ refl w.if-team-lt96.true w.if-is_none.ensures)
-      | else-team-lt96 w ↦
-          subst Next (sym w.places-is) (noted_before numbers now c.loop-place.places c.loop-place.invariant
-          (λ low. elim w.else-team-lt96.branch [
-            | else-team-lt96-via-then-team-lt96+else-is_none v ↦ v.if-is_none.ensures
-            | else-team-lt96-via-else-team-lt96 v ↦ absurd (omega (arith, v.if-team-lt96.false))
-          ]))
-    ]
 
 pub returns : goal.returns
-returns c = all_noted c.args.numbers.now c.loop-place.place _ (omega arith) c.loop-place.invariant
+returns c team low =
+    let numbers = c.args.numbers.now in
+    let (place, here, called) = made _ _ c.from_fn.result (λ a y f e. search rules) 0 96 c.from_fn.ensures.items.each team (omega arith) low in
+    let stands : FirstPlace numbers (length numbers) team place = search rules in
+    subst (FirstPlace numbers (length numbers) team) (sym (place_low (record { places = c.from_fn.result }) team low ∙ here.1 None)) stands

@@ -1,29 +1,18 @@
-use Rattle.std.proofs.Common.{◌≡◌, ℕ, ◌+◌, Bool, Option, sym, ap, ◌∙◌, subst, arith}
-use Rattle.second_office.specs.Typing.{earlier}
-use Rattle.second_office.proofs.Leading.{Leading, leads, led_all, same_lead, stays}
+use Rattle.std.proofs.Common.{rules, tests, ap, ◌∙◌}
+use Rattle.second_office.specs.Typing.{place_of}
+use Rattle.second_office.proofs.Earliest.{comes_next, each_team, first_found, least, only_teams}
 use Rattle.second_office.proofs.typed.Typed.first_of.Goals as goal
-use Rattle.second_office.proofs.typed.Typed.first_of.Goals.{then-team-pot+then-is_earlier, then-team-pot+else-is_earlier, else-team-pot}
-
-pub loop-team-preserved : goal.loop-team-preserved
-loop-team-preserved c =
-    let s = c.args.self.now in
-    let pot = c.args.pot in
-    let team = c.loop-team.team in
-    let first = c.loop-team.first in
-    let earliest = c.loop-team.earliest in
-    let led = c.loop-team.invariant in
-    let sooner : Option ℕ → Bool = λ place. earlier place earliest in
-    elim c.if-team-pot.branch [
-      | then-team-pot+then-is_earlier w ↦
-          same_lead s pot (team + 1) _ _ _ _ w.first-is (w.earliest-is ∙ w.place_of-place.ensures)
-          (leads s pot team first earliest led c.loop-team-test.true w.if-team-pot.true (ap sooner (sym w.place_of-place.ensures) ∙ sym w.if-is_earlier.ensures))
-      | then-team-pot+else-is_earlier w ↦
-          same_lead s pot (team + 1) _ _ _ _ w.first-is w.earliest-is
-          (stays s pot team first earliest led (λ of_pot. ap sooner (sym w.place_of-place.ensures) ∙ sym w.if-is_earlier.ensures))
-      | else-team-pot w ↦ same_lead s pot (team + 1) _ _ _ _ w.first-is w.earliest-is (stays s pot team first earliest led (λ of_pot. absurd (w.if-team-pot.false of_pot)))
-    ]
 
 pub returns : goal.returns
 returns c =
-    let all : c.loop-team.team ≡ 96 = omega arith in
-    led_all c.args.self.now c.args.pot c.loop-team.first c.loop-team.earliest (subst (λ (n : ℕ). Leading c.args.self.now c.args.pot n c.loop-team.first c.loop-team.earliest) all c.loop-team.invariant)
+    let s = c.args.self.now in
+    let pot = c.args.pot in
+    let ran = c.min_by_key.ensures.runs in
+    let p = ran.0 in
+    let passed = c.filter.ensures.runs p p.seen ran.1 in
+    let q = passed.0 in
+    let start = ap (λ r. r.start) passed.1 in
+    let end = ap (λ r. r.end) passed.1 in
+    first_found s pot q.items p.items (each_team q start end (passed.2.0 ∙ ran.2)) (only_teams q start end)
+    (passed.2.4 (comes_next s pot) (λ x r f e. search (rules, tests))) c.min_by_key.result
+    (least p _ _ (place_of s) (λ a r f e. search rules) (λ x r f e. search rules) c.min_by_key.result ran.3)
