@@ -9,12 +9,12 @@ use Rattle.balls.proofs.BallSet.with_lower.Goals as goal
 pub returns-in_err-ball : goal.returns-in_err-ball
 returns-in_err-ball c =
     let p = has_ball c.args.self.now c.args.pot in
-    rw c.from_residual.ensures (nth_range p 16 _ _ c.from.ensures _ _ c.in_err-ball.was (nth_from_yields_List c.nth.result _ _ c.nth.ensures.ran
-    (YieldsList-from_filter _ p (YieldsList-from_range 0 16 16 c.filter.ensures.source refl) c.filter.ensures.closure (λ x r q k. search (rules, tests)))))
+    rw c.from_residual.ensures (nth_range p _ _ _ c.from.ensures _ _ c.in_err-ball.was (nth_from_yields_List c.nth.result _ _ c.nth.ensures.ran
+    (YieldsList-from_filter _ p (YieldsList-from_range _ _ _ c.filter.ensures.source refl) c.filter.ensures.closure (λ x r q k. search (rules, tests)))))
 
 pub returns : goal.returns
 returns c =
     let p = has_ball c.args.self.now c.args.pot in
-    let it = nth_range p 16 _ _ c.from.ensures _ _ c.in_ok-ball.was (nth_from_yields_List c.nth.result _ _ c.nth.ensures.ran
-    (YieldsList-from_filter _ p (YieldsList-from_range 0 16 16 c.filter.ensures.source refl) c.filter.ensures.closure (λ x r q k. search (rules, tests)))) in
+    let it = nth_range p _ _ _ c.from.ensures _ _ c.in_ok-ball.was (nth_from_yields_List c.nth.result _ _ c.nth.ensures.ran
+    (YieldsList-from_filter _ p (YieldsList-from_range _ _ _ c.filter.ensures.source refl) c.filter.ensures.closure (λ x r q k. search (rules, tests)))) in
     record { is_in = it.passes; of_pot = omega (arith, it.below); has_lower = lower_at c.args.self.now c.args.pot c.in_ok-ball.ball it.below ∙ it.before }
