@@ -27,7 +27,7 @@ impl BallSet {
     pub fn has(&self, team: u8) -> bool
         ensures { result ≡ is_in_set self.now team }
     {
-        self.is_in(team as usize)
+        self.is_in(usize::from(team))
     }
 
     // Takes the ball of a team out, where it is in.
@@ -35,7 +35,7 @@ impl BallSet {
         ensures { self.new ≡ without self.old team }
     {
         if team < 96 {
-            self.inside[team as usize] = false;
+            self.inside[usize::from(team)] = false;
         }
     }
 
@@ -52,7 +52,7 @@ impl BallSet {
     {
         let ball = (0..16)
             .filter(|&ball| self.has_ball(pot, ball))
-            .nth(lower as usize)?;
+            .nth(usize::from(lower))?;
         Some(16 * pot + ball)
     }
 
@@ -60,7 +60,7 @@ impl BallSet {
     fn has_ball(&self, pot: u8, ball: u8) -> bool
         ensures { result ≡ has_ball self.now pot ball }
     {
-        self.is_in(16 * pot as usize + ball as usize)
+        self.is_in(16 * usize::from(pot) + usize::from(ball))
     }
 
     fn is_in(&self, number: usize) -> bool

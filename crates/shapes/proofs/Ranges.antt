@@ -1,7 +1,7 @@
 -- Counting along a range.
-use Rattle.std.proofs.Common.{◌≡◌, ℕ, zero, suc, ◌+◌, ◌<◌, ◌≤◌, Bool, true, false, cond, List, ◌∷◌, length, filter, Option, refl, ap, arith}
+use Rattle.std.proofs.Common.{◌≡◌, ℕ, zero, suc, ◌+◌, ◌<◌, ◌≤◌, Bool, true, false, cond, List, ◌∷◌, length, filter, Option, Some, None, sym, refl, ap, ◌∙◌, arith}
 use Rattle.std.specs.List.{count_by, range_with_len, slice_get}
-use Rattle.std.specs.Option.{MatchOption}
+use Rattle.std.specs.Option.{MatchOption, option_map}
 use Rattle.std.proofs.lemmas.List.Sums.{length-filter, sum_by-cons}
 use Rattle.shapes.specs.Counting.{count_below}
 use Rattle.shapes.proofs.Counts.{count_none, count_more, count_no, count_yes}
@@ -44,6 +44,12 @@ module _ (p : ℕ → Bool) (k m : ℕ) where
   nth_from zero a i t e = let f : count_below p a ≡ count_below p m = ap (count_below p) (omega arith) in omega (arith, f)
   nth_from (suc n) a i t e = front a _ (omega arith) (λ j. nth_from n (a + 1) j (omega arith)) (p a) i refl e
 
+same : (o : Option ℕ) → option_map (λ x. x) o ≡ o
+same None = refl
+same (Some x) = refl
+
 -- the i-th of those that pass, as a chain of iterators finds it
-pub nth_range : (p : ℕ → Bool) (n i : ℕ) (o : Option ℕ) → o ≡ slice_get (filter p (range_with_len 0 n)) i → MatchOption o (count_below p n ≤ i) (Nth p i n)
-nth_range p n i o e = rw e (nth_from p i n n 0 i (omega arith) (omega (arith, count_none p)))
+pub nth_range : (p : ℕ → Bool) (n i k : ℕ) → k ≡ i → (r o : Option ℕ) → r ≡ o → option_map (λ x. x) r ≡ slice_get (filter p (range_with_len 0 n)) k → MatchOption o (count_below p n ≤ i) (Nth p i n)
+nth_range p n i k e r o g f =
+    let q : o ≡ slice_get (filter p (range_with_len 0 n)) i = sym g ∙ sym (same r) ∙ f ∙ ap (slice_get (filter p (range_with_len 0 n))) e in
+    rw q (nth_from p i n n 0 i (omega arith) (omega (arith, count_none p)))

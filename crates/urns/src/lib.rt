@@ -32,7 +32,7 @@ pub fn mix(number: u64) -> u64
 fn picked(balls: &BallSet, pot: u8, number: u64) -> Option<u8>
     ensures { Picked balls.now pot number result }
 {
-    let lower = number.checked_rem(balls.count(pot) as u64)?;
+    let lower = number.checked_rem(u64::from(balls.count(pot)))?;
     balls.with_lower(pot, lower as u8)
 }
 

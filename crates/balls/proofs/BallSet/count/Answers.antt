@@ -8,5 +8,5 @@ use Rattle.balls.proofs.BallSet.count.Goals as goal
 pub returns : goal.returns
 returns c =
     let p = has_ball c.args.self.now c.args.pot in
-    count_range p 16 _ (count_from_yields_List c.filter.result _ c.count.ensures.ran
-    (YieldsList-from_filter _ p (YieldsList-from_range 0 16 16 c.filter.ensures.source refl) c.filter.ensures.closure (λ x r q k. search (rules, tests))))
+    count_range p _ _ (count_from_yields_List c.filter.result _ c.count.ensures.ran
+    (YieldsList-from_filter _ p (YieldsList-from_range _ _ _ c.filter.ensures.source refl) c.filter.ensures.closure (λ x r q k. search (rules, tests))))
