@@ -1,2 +1,1 @@
 pub mod Earliest
-pub mod Made

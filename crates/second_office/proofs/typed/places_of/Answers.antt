@@ -1,7 +1,7 @@
 use Rattle.std.proofs.Common.{rules, subst, sym, ◌∙◌, length, None, arith}
 use Rattle.second_office.specs.Typing.{FirstPlace}
 use Rattle.second_office.specs.Places.{place_low}
-use Rattle.second_office.proofs.Made.{made}
+use Rattle.shapes.proofs.Made.{made}
 use Rattle.second_office.proofs.typed.places_of.Goals as goal
 
 pub returns : goal.returns
