@@ -1,5 +1,5 @@
 -- Full draws, number by number.
-use Rattle.std.proofs.Common.{◌≡◌, ℕ, ◌<◌, ◌≤◌, Bool, true, false, length, get_or, Some, None, Option, MatchBool, MatchOption, arith, sym, refl, subst}
+use Rattle.std.proofs.Common.{◌≡◌, ℕ, ◌+◌, ◌*◌, ◌<◌, ◌≤◌, Bool, true, false, length, get_or, Some, None, Option, MatchBool, MatchOption, arith, sym, refl, subst}
 use Rattle.std.proofs.lemmas.Slice.Zip.{get_or-zip, length-zip}
 use Rattle.std.specs.List.{AllWithin, HoldsAt, zip}
 use Rattle.shapes.specs.Answers.{Exactly}
@@ -56,9 +56,9 @@ module _ (t u : Table) where
 pub same_placements : (t u : Table) → ContainedIn t u → ContainedIn u t → (n : ℕ) → group_of t n ≡ group_of u n
 same_placements t u there back n = grind (arith, there n, back n, cases_some (group_of t n), cases_some (group_of u n))
 
--- the first number below 96 that stands there, or none
+-- the first team of the pot that stands in the group, or none
 pub seated_from : (t : Table) (pot g : ℕ) (o : Option ℕ)
-    → MatchOption o ((n : ℕ) → 0 ≤ n → n < 96 → (pot_of n ≡ pot) × (group_of t n ≡ Some g) → ⊥) (λ n. (0 ≤ n) × (n < 96) × ((pot_of n ≡ pot) × (group_of t n ≡ Some g)) × ((k : ℕ) → 0 ≤ k → k < n → (pot_of k ≡ pot) × (group_of t k ≡ Some g) → ⊥))
+    → MatchOption o ((n : ℕ) → 16 * pot ≤ n → n < 16 * pot + 16 → group_of t n ≡ Some g → ⊥) (λ n. (16 * pot ≤ n) × (n < 16 * pot + 16) × (group_of t n ≡ Some g) × ((k : ℕ) → 16 * pot ≤ k → k < n → group_of t k ≡ Some g → ⊥))
     → SeatedAt t pot g o
-seated_from t pot g None none = λ n in_pot e. none n (omega arith) (seat_low t.seats n g t.whole e) (in_pot, e)
-seated_from t pot g (Some n) found = found.2
+seated_from t pot g None none = λ n in_pot. none n (omega arith) (omega arith)
+seated_from t pot g (Some n) found = (omega arith, found.2)
