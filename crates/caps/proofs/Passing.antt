@@ -1,7 +1,8 @@
 -- What the counts say as the teams are gone through.
-use Rattle.std.proofs.Common.{◌≡◌, ℕ, ◌+◌, ◌<◌, ◌≤◌, ltb, List, [], length, get_or, set, replicate, Some, None, sym, refl, ap, ◌∙◌, subst, inl, inr, arith, length-set}
-use Rattle.std.proofs.lemmas.List.{get_or_past, get_or-replicate, get_or-set_other, get_or-set_same, length-replicate}
-use Rattle.std.proofs.lemmas.Bool.{cases_eq, cases_lt, cond-false, le-ltb}
+use Rattle.std.proofs.Common.{◌≡◌, ℕ, ◌+◌, ◌<◌, ◌≤◌, ltb, List, [], length, get_or, set, replicate, Some, None, sym, ap, ◌∙◌, inl, inr, arith}
+use Rattle.std.proofs.lemmas.List.{get_or_past, get_or-replicate}
+use Rattle.std.proofs.lemmas.Grind.{common_steps}
+use Rattle.std.proofs.lemmas.Bool.{cases_lt, cond-false, le-ltb}
 use Rattle.shapes.proofs.Counts.{count_no, count_none, count_up, count_yes}
 use Rattle.shapes.specs.Counting.{count_below}
 use Rattle.tables.proofs.Seated.{none_some, some_same}
@@ -17,10 +18,7 @@ abbrev zeros : List (List ℕ)
 zeros = replicate 65 (replicate 16 0)
 
 all_zero : (size g : ℕ) → ◌≡◌ {A = ℕ} (get_or (replicate size 0) g 0) 0
-all_zero size g = elim (cases_lt g size) [
-  | inl h ↦ get_or-replicate size g 0 0 h
-  | inr h ↦ let past : length (replicate {A = ℕ} size 0) ≤ g = omega (arith, length-replicate {A = ℕ} size 0) in get_or_past (replicate size 0) g 0 past
-]
+all_zero size g = grind (arith, common_steps)
 
 no_entry : (a g : ℕ) → entry_at zeros a g ≡ 0
 no_entry a g = elim (cases_lt a 65) [
@@ -33,29 +31,14 @@ abbrev written : List (List ℕ) → ℕ → ℕ → ℕ → List (List ℕ)
 written counts a g v = set counts a (set (get_or counts a []) g v)
 
 module _ (counts : List (List ℕ)) (a g v : ℕ) (low : a < length counts) where
-  row_here : (b : ℕ) → b ≡ a → get_or (written counts a g v) b [] ≡ set (get_or counts a []) g v
-  row_here b e = ap (λ (i : ℕ). get_or (written counts a g v) i []) e ∙ get_or-set_same counts a (set (get_or counts a []) g v) [] low
-
-  row_other : (b : ℕ) → (b ≡ a → ⊥) → get_or (written counts a g v) b [] ≡ get_or counts b []
-  row_other b ne = get_or-set_other counts a b (set (get_or counts a []) g v) [] ne
-
   row_length : (b : ℕ) → length (get_or (written counts a g v) b []) ≡ length (get_or counts b [])
-  row_length b = elim (cases_eq b a) [
-    | inl e ↦ ap length (row_here b e) ∙ length-set (get_or counts a []) g v ∙ ap (λ (i : ℕ). length (get_or counts i [])) (sym e)
-    | inr ne ↦ ap length (row_other b ne)
-  ]
+  row_length b = grind (arith, common_steps)
 
   entry_here : g < length (get_or counts a []) → entry_at (written counts a g v) a g ≡ v
-  entry_here inside = ap (λ (row : List ℕ). get_or row g 0) (row_here a refl) ∙ get_or-set_same (get_or counts a []) g v 0 inside
+  entry_here inside = grind (arith, common_steps)
 
   entry_other : (b h : ℕ) → (a ≡ b → g ≡ h → ⊥) → entry_at (written counts a g v) b h ≡ entry_at counts b h
-  entry_other b h ne = elim (cases_eq b a) [
-    | inl e ↦
-        ap (λ (row : List ℕ). get_or row h 0) (row_here b e)
-        ∙ get_or-set_other (get_or counts a []) g h v 0 (λ q. ne (sym e) (sym q))
-        ∙ ap (λ (i : ℕ). entry_at counts i h) (sym e)
-    | inr q ↦ ap (λ (row : List ℕ). get_or row h 0) (row_other b q)
-  ]
+  entry_other b h ne = grind (arith, common_steps)
 
 cap_low : (c : Caps) (a most : ℕ) → cap_of c a ≡ Some most → a < 65
 cap_low c a most capped = elim (cases_lt a 65) [
@@ -94,31 +77,17 @@ module _ (c : Caps) (t : Table) where
 
     -- there is a row for it
     row : a < length counts
-    row = elim (cases_lt a (length counts)) [
-      | inl low ↦ low
-      | inr past ↦ absurd (omega (arith, s.rows a (cap_low c a most capped), ap length (get_or_past counts a [] past)))
-    ]
+    row = grind (arith, s.rows a (cap_low c a most capped), get_or_past counts a [])
 
     -- there is room for it
     pub counted : g < 16 → entry_at counts a g < most → Counted c t (with_mate counts a g) (n + 1)
     counted letter room =
         let v = entry_at counts a g + 1 in
         let inside : g < length (get_or counts a []) = omega (arith, s.rows a (cap_low c a most capped)) in
-        let before = s.exact a g most capped in
-        let Right : ℕ → ℕ → Type 0 = λ b h. (k : ℕ) → cap_of c b ≡ Some k → (entry_at (written counts a g v) b h ≡ count_below (is_mate c t b h) (n + 1)) × (count_below (is_mate c t b h) (n + 1) ≤ k) in
-        let here : Right a g = λ k cap-of. (entry_here counts a g v row inside ∙ ap (λ (x : ℕ). x + 1) before ∙ sym one_more, omega (arith, one_more, some_same _ most k capped cap-of)) in
-        let elsewhere : (b h : ℕ) → (a ≡ b → g ≡ h → ⊥) → Right b h = λ b h ne k cap-of. (entry_other counts a g v row b h ne ∙ s.exact b h k cap-of ∙ sym (others b h ne), omega (arith, others b h ne, s.within b h k cap-of)) in
-        let all : (b h : ℕ) → Right b h = λ b h. elim (cases_eq a b) [
-          | inl e ↦ elim (cases_eq g h) [
-            | inl q ↦ subst (λ (x : ℕ). Right x h) e (subst (Right a) q here)
-            | inr ne ↦ elsewhere b h (λ _ q. ne q)
-          ]
-          | inr ne ↦ elsewhere b h (λ e _. ne e)
-        ] in
         record {
           rows = λ b under. row_length counts a g v row b ∙ s.rows b under;
-          exact = λ b h k cap-of. (all b h k cap-of).0;
-          within = λ b h k cap-of. (all b h k cap-of).1;
+          exact = λ b h k cap-of. grind (arith, entry_here counts a g v row inside, entry_other counts a g v row b h, s.exact b h k cap-of, one_more, others b h);
+          within = λ b h k cap-of. grind (arith, s.exact b h k cap-of, s.within b h k cap-of, one_more, others b h);
         }
 
     -- the group is full of the association

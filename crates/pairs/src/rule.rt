@@ -27,6 +27,7 @@ impl ClashRule for Pairs {
     ghost removal = { λ rule before team after out apart i low both. apart i low (together_before before team after out _ _ both) };
 
     fn admits(&self, table: &Table) -> bool {
+        // a loop over the slice, as the project has it here; it ends with the first pair that stands together
         for &(one, other) in &self.places[..self.listed] {
             if table.together(one, other) {
                 return false;

@@ -1,6 +1,6 @@
 -- When a table can be completed, under any collection of tables that keeps the removal law.
 use Rattle.std.proofs.Common.{◌≡◌, ℕ, zero, suc, ◌<◌, ◌≤◌, length, set, Some, None, sym, refl, ap, ◌∙◌, subst, inl, inr, arith, length-set}
-use Rattle.std.proofs.lemmas.Bool.{cases_eq, cases_lt}
+use Rattle.std.proofs.lemmas.Grind.{common_steps}
 use Rattle.shapes.specs.declared.Shape.{Shape}
 use Rattle.shapes.specs.Teams.{Takes, pot_of}
 use Rattle.tables.specs.declared.table.Table.{Table}
@@ -9,7 +9,7 @@ use Rattle.tables.specs.Draws.{Admissible, ContainedIn, FullDraw}
 use Rattle.tables.specs.Tables.{Without, group_of}
 use Rattle.tables.proofs.Drawn.{same_placements}
 use Rattle.tables.proofs.Equal.{canonical}
-use Rattle.tables.proofs.Seated.{cases_some, clear_lettered, clear_single, seat_here, seat_other, seat_past, some_same}
+use Rattle.tables.proofs.Seated.{cases_some, clear_lettered, clear_single, seat_past, some_same}
 
 -- there is the table without the placement of a team
 removed : (t : Table) (n : ℕ) → n < 96 → (u : Table) × Without t n u
@@ -21,7 +21,7 @@ removed t n low =
         single = clear_single t.seats n within t.single;
         lettered = clear_lettered t.seats n within t.lettered;
       },
-      record { here = seat_here t.seats n within None; others = seat_other t.seats n within None },
+      record { here = grind (arith, common_steps); others = λ m ne. grind (arith, common_steps) },
     )
 
 -- nothing stands past the last number
@@ -53,19 +53,13 @@ module _ (Admits : Table → Type 0) (removal : Removal Admits) where
             record {
               table = out.0;
               admits = removal r.table n out.0 out.1 r.admits;
-              below = λ i h. elim (cases_eq i n) [
-                | inl same ↦ subst (λ (x : ℕ). group_of out.0 x ≡ group_of t x) (sym same) (out.1.here ∙ sym none)
-                | inr ne ↦ out.1.others i ne ∙ r.below i (omega arith)
-              ];
-              above = λ i h. out.1.others i (λ same. omega arith) ∙ r.above i (omega arith);
+              below = λ i h. grind (arith, out.1.here, out.1.others i, r.below i);
+              above = λ i h. grind (arith, out.1.others i, r.above i);
             }
         | inr p ↦ record {
           table = r.table;
           admits = r.admits;
-          below = λ i h. elim (cases_eq i n) [
-            | inl same ↦ subst (λ (x : ℕ). group_of r.table x ≡ group_of t x) (sym same) (r.above n (omega arith) ∙ part n p.0 p.1 ∙ sym p.1)
-            | inr ne ↦ r.below i (omega arith)
-          ];
+          below = λ i h. grind (arith, p.1, part n p.0 p.1, r.above n, r.below i);
           above = λ i h. r.above i (omega arith);
         }
       ]
@@ -74,10 +68,7 @@ module _ (Admits : Table → Type 0) (removal : Removal Admits) where
   pub admitted_part : (t u : Table) → ContainedIn t u → Admits u → Admits t
   admitted_part t u part ok =
       let r = thinned t u part ok 96 (omega arith) in
-      subst Admits (canonical r.table t (λ i. elim (cases_lt i 96) [
-        | inl low ↦ r.below i low
-        | inr past ↦ none_past r.table i past ∙ sym (none_past t i past)
-      ])) r.admits
+      subst Admits (canonical r.table t (λ i. grind (arith, r.below i, none_past r.table i, none_past t i))) r.admits
 
   pub completions : Completions Admits
   completions = record {

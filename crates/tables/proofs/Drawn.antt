@@ -1,6 +1,5 @@
 -- Full draws, number by number.
-use Rattle.std.proofs.Common.{◌≡◌, ℕ, ◌<◌, ◌≤◌, Bool, true, false, length, get_or, Some, None, Option, MatchBool, MatchOption, arith, sym, refl, ◌∙◌, subst, inl, inr}
-use Rattle.std.proofs.lemmas.Bool.{cases_lt}
+use Rattle.std.proofs.Common.{◌≡◌, ℕ, ◌+◌, ◌*◌, ◌<◌, ◌≤◌, Bool, true, false, length, get_or, Some, None, Option, MatchBool, MatchOption, arith, sym, refl, subst}
 use Rattle.std.proofs.lemmas.Slice.Zip.{get_or-zip, length-zip}
 use Rattle.std.specs.List.{AllWithin, HoldsAt, zip}
 use Rattle.shapes.specs.Answers.{Exactly}
@@ -9,7 +8,7 @@ use Rattle.shapes.specs.Teams.{HasTeam, Takes, pot_of}
 use Rattle.tables.specs.declared.table.Table.{Table}
 use Rattle.tables.specs.Draws.{ContainedIn, FullDraw, Settled}
 use Rattle.tables.specs.Tables.{SeatedAt, group_of}
-use Rattle.tables.proofs.Seated.{none_some, some_same, cases_some, seat_past}
+use Rattle.tables.proofs.Seated.{none_some, some_same, cases_some, seat_low}
 
 settled_placed : (s : Shape) (n : ℕ) (o : Option ℕ) → Settled s n o → HasTeam s n → (g : ℕ) × (o ≡ Some g) × Takes s (pot_of n) g
 settled_placed s n None r has = absurd (r has)
@@ -26,10 +25,7 @@ module _ (s : Shape) (t : Table) where
   pub full_from_settled : ((n : ℕ) → n < 96 → Settled s n (group_of t n)) → FullDraw s t
   full_from_settled all = record {
     every = λ n has. settled_placed s n (group_of t n) (all n has.0) has;
-    only = λ n g e. elim (cases_lt n 96) [
-      | inl low ↦ settled_team s n g (group_of t n) e (all n low)
-      | inr past ↦ absurd (none_some (group_of t n) g (seat_past t.seats n t.whole past) e)
-    ];
+    only = λ n g e. settled_team s n g (group_of t n) e (all n (seat_low t.seats n g t.whole e));
   }
 
   pub full_settled : FullDraw s t → (n : ℕ) → Settled s n (group_of t n)
@@ -53,29 +49,16 @@ module _ (t u : Table) where
   long = omega (arith, length-zip t.seats u.seats, t.whole, u.whole)
 
   pub contained_answer : (r : Bool) → MatchBool r (AllWithin Kept (zip t.seats u.seats) 0 (length (zip t.seats u.seats))) ((k : ℕ) × (k < length (zip t.seats u.seats)) × HoldsAt (λ p. Kept p → ⊥) (zip t.seats u.seats) k) → Exactly r (ContainedIn u t)
-  contained_answer true all = λ n g e. elim (cases_lt n 96) [
-    | inl low ↦ subst Kept (beside n low) (all n (None, None) (omega arith) (omega (arith, long))) g e
-    | inr past ↦ absurd (none_some (group_of u n) g (seat_past u.seats n u.whole past) e)
-  ]
+  contained_answer true all = λ n g e. let low = seat_low u.seats n g u.whole e in subst Kept (beside n low) (all n (None, None) (omega arith) (omega (arith, long))) g e
   contained_answer false (k, within, never) = λ part. never (None, None) (subst Kept (sym (beside k (omega (arith, within, long)))) (part k))
 
 -- each contained in the other
 pub same_placements : (t u : Table) → ContainedIn t u → ContainedIn u t → (n : ℕ) → group_of t n ≡ group_of u n
-same_placements t u there back n =
-    elim (cases_some (group_of t n)) [
-      | inl e ↦ elim (cases_some (group_of u n)) [
-        | inl f ↦ e ∙ sym f
-        | inr p ↦ absurd (none_some (group_of t n) p.0 e (back n p.0 p.1))
-      ]
-      | inr p ↦ p.1 ∙ sym (there n p.0 p.1)
-    ]
+same_placements t u there back n = grind (arith, there n, back n, cases_some (group_of t n), cases_some (group_of u n))
 
--- the first number below 96 that stands there, or none
+-- the first team of the pot that stands in the group, or none
 pub seated_from : (t : Table) (pot g : ℕ) (o : Option ℕ)
-    → MatchOption o ((n : ℕ) → 0 ≤ n → n < 96 → (pot_of n ≡ pot) × (group_of t n ≡ Some g) → ⊥) (λ n. (0 ≤ n) × (n < 96) × ((pot_of n ≡ pot) × (group_of t n ≡ Some g)) × ((k : ℕ) → 0 ≤ k → k < n → (pot_of k ≡ pot) × (group_of t k ≡ Some g) → ⊥))
+    → MatchOption o ((n : ℕ) → 16 * pot ≤ n → n < 16 * pot + 16 → group_of t n ≡ Some g → ⊥) (λ n. (16 * pot ≤ n) × (n < 16 * pot + 16) × (group_of t n ≡ Some g) × ((k : ℕ) → 16 * pot ≤ k → k < n → group_of t k ≡ Some g → ⊥))
     → SeatedAt t pot g o
-seated_from t pot g None none = λ n in_pot e. elim (cases_lt n 96) [
-  | inl low ↦ none n (omega arith) low (in_pot, e)
-  | inr past ↦ none_some (group_of t n) g (seat_past t.seats n t.whole past) e
-]
-seated_from t pot g (Some n) found = found.2
+seated_from t pot g None none = λ n in_pot. none n (omega arith) (omega arith)
+seated_from t pot g (Some n) found = (omega arith, found.2)

@@ -1,14 +1,15 @@
 -- What one entry more, or one less, leaves of the others.
-use Rattle.std.proofs.Common.{◌≡◌, ℕ, ◌<◌, ◌≤◌, ◌⊎◌, List, length, set, replicate, Some, None, Option, sym, refl, ◌∙◌, subst, inl, inr, arith}
-use Rattle.std.proofs.lemmas.List.{get_or-set_same, get_or-set_other, get_or-replicate, get_or_past}
-use Rattle.std.proofs.lemmas.Bool.{cases_eq, cases_lt}
+use Rattle.std.proofs.Common.{◌≡◌, ℕ, ◌<◌, ◌≤◌, ◌⊎◌, List, length, set, replicate, Some, None, Option, refl, inl, inr, arith}
+use Rattle.std.proofs.lemmas.List.{get_or-replicate, get_or_past}
+use Rattle.std.proofs.lemmas.Grind.{common_steps}
+use Rattle.std.proofs.lemmas.Bool.{cases_lt}
 use Rattle.tables.specs.Seats.{seat_of, OnePerPot, Lettered}
 
 pub some_same : (o : Option ℕ) (a b : ℕ) → o ≡ Some a → o ≡ Some b → a ≡ b
 some_same o a b p q = cc
 
 pub none_some : (o : Option ℕ) (a : ℕ) → o ≡ None → o ≡ Some a → ⊥
-none_some o a p q = let z : ◌≡◌ {A = ℕ} 0 1 = cc in omega arith
+none_some o a p q = cc
 
 pub cases_some : (o : Option ℕ) → (o ≡ None) ⊎ ((k : ℕ) × (o ≡ Some k))
 cases_some None = inl refl
@@ -25,19 +26,9 @@ pub seat_empty : (n : ℕ) → seat_of (replicate 96 None) n ≡ None
 seat_empty n = elim (cases_lt n 96) [ inl h ↦ get_or-replicate 96 n None None h | inr h ↦ get_or_past (replicate 96 None) n None h ]
 
 module _ (s : List (Option ℕ)) (n : ℕ) (low : n < length s) where
-  pub seat_here : (o : Option ℕ) → seat_of (set s n o) n ≡ o
-  seat_here o = get_or-set_same s n o None low
-
-  pub seat_other : (o : Option ℕ) (m : ℕ) → (m ≡ n → ⊥) → seat_of (set s n o) m ≡ seat_of s m
-  seat_other o m ne = get_or-set_other s n m o None ne
-
   -- where a team stands once n stands nowhere
   pub after_clear : (m k : ℕ) → seat_of (set s n None) m ≡ Some k → seat_of s m ≡ Some k
-  after_clear m k e =
-      elim (cases_eq m n) [
-        | inl same ↦ absurd (none_some _ k (seat_here None) (subst (λ (x : ℕ). seat_of (set s n None) x ≡ Some k) same e))
-        | inr other ↦ sym (seat_other None m other) ∙ e
-      ]
+  after_clear m k e = grind (arith, common_steps)
 
   pub clear_single : OnePerPot s → OnePerPot (set s n None)
   clear_single one u v (pot, (k, a, b)) = one u v (pot, (k, after_clear u k a, after_clear v k b))

@@ -32,6 +32,9 @@ impl Table {
     pub fn team_at(&self, pot: u8, group: u8) -> Option<u8>
         ensures { SeatedAt self.now pot group result }
     {
-        (0..96).find(|&team| team / 16 == pot && self.group_of(team) == Some(group))
+        if pot >= 6 {
+            return None;
+        }
+        (16 * pot..16 * pot + 16).find(|&team| self.group_of(team) == Some(group))
     }
 }

@@ -1,8 +1,7 @@
-use Rattle.std.proofs.Common.{ℕ, ◌<◌, inl, inr, rules}
-use Rattle.std.proofs.lemmas.Bool.{cases_lt}
+use Rattle.std.proofs.Common.{ℕ, ◌<◌, rules}
 use Rattle.shapes.proofs.Exact.{exactly_like}
 use Rattle.tables.proofs.Ranges.{all_below}
-use Rattle.tables.proofs.Seated.{none_some, seat_past}
+use Rattle.tables.proofs.Seated.{seat_low}
 use Rattle.tables.specs.declared.table.Table.{Table}
 use Rattle.bars.specs.Barred.{BarsAdmit, Respected}
 use Rattle.bars.specs.declared.Bars.{Bars}
@@ -10,10 +9,7 @@ use Rattle.bars.proofs.BarsClashRule.admits.Goals as goal
 
 -- only the numbers below 96 have to be looked at
 all_placed : (b : Bars) (t : Table) → ((n : ℕ) → n < 96 → Respected b t n) → BarsAdmit b t
-all_placed b t all n = elim (cases_lt n 96) [
-  | inl low ↦ all n low
-  | inr past ↦ λ g e barred. none_some _ g (seat_past t.seats n t.whole past) e
-]
+all_placed b t all n g e = all n (seat_low t.seats n g t.whole e) g e
 
 pub returns : goal.returns
 returns c =
