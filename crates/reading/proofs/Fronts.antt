@@ -1,6 +1,7 @@
 -- A record at the front of bytes: what is decoded there, and what its form says.
 use Rattle.std.proofs.Common.{◌≡◌, ℕ, suc, ◌+◌, ◌*◌, ◌<◌, ◌≤◌, ◌⊎◌, List, [], ◌∷◌, ◌++◌, length, get_or, take, drop, Some, None, Ok, Err, Option, Result, sym, refl, ap, ◌∙◌, inl, inr, arith}
 use Rattle.std.proofs.lemmas.List.{take-append-drop, length-take-le, length-append, length-drop, take_at}
+use Rattle.std.proofs.lemmas.Grind.{common_steps}
 use Rattle.std.proofs.lemmas.Bool.Decides.{nat_tests}
 use Rattle.records.specs.declared.refusal.SheetFault.{SheetFault}
 use Rattle.records.specs.declared.refusal.SheetRefusal.TheVariants.{UnknownKind, CutShort}
@@ -13,46 +14,27 @@ use Rattle.reading.proofs.Going.{decoded_size}
 
 -- the first bytes of a list that is long enough
 take1 : (bs : List ℕ) → 1 ≤ length bs → take 1 bs ≡ get_or bs 0 0 ∷ []
-take1 [] h = absurd (omega arith)
-take1 (a ∷ r) h = refl
+take1 bs h = grind (arith, common_steps)
 
 take3 : (bs : List ℕ) → 3 ≤ length bs → take 3 bs ≡ get_or bs 0 0 ∷ get_or bs 1 0 ∷ get_or bs 2 0 ∷ []
-take3 [] h = absurd (omega arith)
-take3 (a ∷ []) h = absurd (omega arith)
-take3 (a ∷ b ∷ []) h = absurd (omega arith)
-take3 (a ∷ b ∷ c ∷ r) h = refl
+take3 bs h = grind (arith, common_steps)
 
 take4 : (bs : List ℕ) → 4 ≤ length bs → take 4 bs ≡ get_or bs 0 0 ∷ get_or bs 1 0 ∷ get_or bs 2 0 ∷ get_or bs 3 0 ∷ []
-take4 [] h = absurd (omega arith)
-take4 (a ∷ bs) h = ap (λ l. a ∷ l) (take3 bs (omega arith))
+take4 bs h = grind (arith, common_steps)
 
 take7 : (bs : List ℕ) → 7 ≤ length bs
     → take 7 bs ≡ get_or bs 0 0 ∷ get_or bs 1 0 ∷ get_or bs 2 0 ∷ get_or bs 3 0 ∷ get_or bs 4 0 ∷ get_or bs 5 0 ∷ get_or bs 6 0 ∷ []
-take7 [] h = absurd (omega arith)
-take7 (a ∷ []) h = absurd (omega arith)
-take7 (a ∷ b ∷ []) h = absurd (omega arith)
-take7 (a ∷ b ∷ c ∷ bs) h = ap (λ l. a ∷ b ∷ c ∷ l) (take4 bs (omega arith))
+take7 bs h = grind (arith, common_steps)
 
 -- eight bytes spell the same number, whatever stands behind them
 take8 : (bs : List ℕ) → 8 ≤ length bs → eight bs ≡ eight (take 8 bs)
-take8 [] h = absurd (omega arith)
-take8 (a ∷ []) h = absurd (omega arith)
-take8 (a ∷ b ∷ []) h = absurd (omega arith)
-take8 (a ∷ b ∷ c ∷ []) h = absurd (omega arith)
-take8 (a ∷ b ∷ c ∷ d ∷ []) h = absurd (omega arith)
-take8 (a ∷ b ∷ c ∷ d ∷ e ∷ []) h = absurd (omega arith)
-take8 (a ∷ b ∷ c ∷ d ∷ e ∷ f ∷ []) h = absurd (omega arith)
-take8 (a ∷ b ∷ c ∷ d ∷ e ∷ f ∷ g ∷ []) h = absurd (omega arith)
-take8 (a ∷ b ∷ c ∷ d ∷ e ∷ f ∷ g ∷ k ∷ r) h = refl
+take8 bs h = grind (arith, common_steps)
 
 take9 : (bs : List ℕ) → 1 ≤ length bs → take 9 bs ≡ get_or bs 0 0 ∷ take 8 (drop 1 bs)
-take9 [] h = absurd (omega arith)
-take9 (a ∷ r) h = refl
+take9 bs h = grind (arith, common_steps)
 
 take18 : (bs : List ℕ) → 2 ≤ length bs → take 18 bs ≡ get_or bs 0 0 ∷ get_or bs 1 0 ∷ take 16 (drop 2 bs)
-take18 [] h = absurd (omega arith)
-take18 (a ∷ []) h = absurd (omega arith)
-take18 (a ∷ b ∷ r) h = refl
+take18 bs h = grind (arith, common_steps)
 
 -- what was decoded has its form there, kind by kind
 module _ (bs : List ℕ) (at : ℕ) where
@@ -159,11 +141,7 @@ pub end_at : (rest : List ℕ) (at : ℕ) → decoded (90 ∷ rest) at ≡ Ok En
 end_at rest at = grind (arith, nat_tests)
 
 team_reads : (pot ball a : ℕ) (c rest : List ℕ) (at : ℕ) → length c ≡ 3 → decoded (84 ∷ pot ∷ ball ∷ a ∷ (c ++ rest)) at ≡ Ok (Team pot ball a c)
-team_reads pot ball a [] rest at h = absurd (omega arith)
-team_reads pot ball a (x ∷ []) rest at h = absurd (omega arith)
-team_reads pot ball a (x ∷ y ∷ []) rest at h = absurd (omega arith)
-team_reads pot ball a (x ∷ y ∷ z ∷ []) rest at h = grind (arith, nat_tests)
-team_reads pot ball a (x ∷ y ∷ z ∷ w ∷ c) rest at h = absurd (omega arith)
+team_reads pot ball a c rest at h = grind (arith, nat_tests, common_steps)
 
 seed_reads : (body rest : List ℕ) (at : ℕ) → length body ≡ 8 → decoded (85 ∷ (body ++ rest)) at ≡ Ok (Seed (eight body))
 seed_reads body rest at h =
