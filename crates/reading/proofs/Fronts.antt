@@ -13,19 +13,6 @@ use Rattle.reading.specs.Format.{Front, Unknown, Short}
 use Rattle.reading.proofs.Going.{decoded_size}
 
 -- the first bytes of a list that is long enough
-take1 : (bs : List ℕ) → 1 ≤ length bs → take 1 bs ≡ get_or bs 0 0 ∷ []
-take1 bs h = grind (arith, common_steps)
-
-take3 : (bs : List ℕ) → 3 ≤ length bs → take 3 bs ≡ get_or bs 0 0 ∷ get_or bs 1 0 ∷ get_or bs 2 0 ∷ []
-take3 bs h = grind (arith, common_steps)
-
-take4 : (bs : List ℕ) → 4 ≤ length bs → take 4 bs ≡ get_or bs 0 0 ∷ get_or bs 1 0 ∷ get_or bs 2 0 ∷ get_or bs 3 0 ∷ []
-take4 bs h = grind (arith, common_steps)
-
-take7 : (bs : List ℕ) → 7 ≤ length bs
-    → take 7 bs ≡ get_or bs 0 0 ∷ get_or bs 1 0 ∷ get_or bs 2 0 ∷ get_or bs 3 0 ∷ get_or bs 4 0 ∷ get_or bs 5 0 ∷ get_or bs 6 0 ∷ []
-take7 bs h = grind (arith, common_steps)
-
 -- eight bytes spell the same number, whatever stands behind them
 take8 : (bs : List ℕ) → 8 ≤ length bs → eight bs ≡ eight (take 8 bs)
 take8 bs h = grind (arith, common_steps)
@@ -66,21 +53,21 @@ module _ (bs : List ℕ) (at : ℕ) where
 -- the form, from the bytes
 module _ (bs : List ℕ) where
   shape_form : (g p : ℕ) → 3 ≤ length bs → (get_or bs 0 0 ≡ 71) × (get_or bs 1 0 ≡ g) × (get_or bs 2 0 ≡ p) → Form (ShapeRecord g p) (take 3 bs)
-  shape_form g p l h = cc (take3 bs l)
+  shape_form g p l h = grind (arith, common_steps)
 
   team_form : (pot ball a : ℕ) (c : List ℕ) → 7 ≤ length bs
       → (get_or bs 0 0 ≡ 84) × (get_or bs 1 0 ≡ pot) × (get_or bs 2 0 ≡ ball) × (get_or bs 3 0 ≡ a) × (get_or bs 4 0 ∷ get_or bs 5 0 ∷ get_or bs 6 0 ∷ [] ≡ c)
       → Form (Team pot ball a c) (take 7 bs)
-  team_form pot ball a c l h = (ap length (sym h.4), cc (take7 bs l))
+  team_form pot ball a c l h = (ap length (sym h.4), grind (arith, common_steps))
 
   pair_form : (a b : ℕ) → 3 ≤ length bs → (get_or bs 0 0 ≡ 88) × (get_or bs 1 0 ≡ a) × (get_or bs 2 0 ≡ b) → Form (Pair a b) (take 3 bs)
-  pair_form a b l h = cc (take3 bs l)
+  pair_form a b l h = grind (arith, common_steps)
 
   cap_form : (a m : ℕ) → 3 ≤ length bs → (get_or bs 0 0 ≡ 67) × (get_or bs 1 0 ≡ a) × (get_or bs 2 0 ≡ m) → Form (Cap a m) (take 3 bs)
-  cap_form a m l h = cc (take3 bs l)
+  cap_form a m l h = grind (arith, common_steps)
 
   bars_form : (n g : ℕ) → 4 ≤ length bs → (get_or bs 0 0 ≡ 66) × (get_or bs 1 0 ≡ n) × (g ≡ get_or bs 2 0 * 256 + get_or bs 3 0) → Form (Bars n g) (take 4 bs)
-  bars_form n g l h = (get_or bs 2 0, get_or bs 3 0, h.2, cc (take4 bs l))
+  bars_form n g l h = (get_or bs 2 0, get_or bs 3 0, h.2, grind (arith, common_steps))
 
   seed_form : (s : ℕ) → 9 ≤ length bs → (get_or bs 0 0 ≡ 85) × (s ≡ eight (drop 1 bs)) → Form (Seed s) (take 9 bs)
   seed_form s l h =
@@ -93,7 +80,7 @@ module _ (bs : List ℕ) where
       (ap length (sym h.2) ∙ length-take-le 16 (drop 2 bs) k, cc (take18 bs (omega arith)))
 
   end_form : 1 ≤ length bs → get_or bs 0 0 ≡ 90 → Form End (take 1 bs)
-  end_form l h = cc (take1 bs l)
+  end_form l h = grind (arith, common_steps)
 
 pub form_of : (bs : List ℕ) (at : ℕ) (r : Record) → decoded bs at ≡ Ok r → Form r (take (size_of r) bs)
 form_of bs at (ShapeRecord g p) h = shape_form bs g p (decoded_size bs at (ShapeRecord g p) h) (shape_bytes bs at g p h)
