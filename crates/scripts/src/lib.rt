@@ -1,10 +1,10 @@
 // Balls that come in orders written down, one for each pot.
 #![tactic(auto)]
 
-ghost use Rattle.std.specs.Prelude.{◌≡◌, ℕ, ◌<◌, ◌≤◌, IfSome, None, Decides, MatchOption, slice_index, slice_index_or};
+ghost use Rattle.std.specs.Prelude.{ℕ, ◌<◌, ◌≤◌, IfSome, None, Decides, MatchOption, slice_index_or};
 ghost use Rattle.shapes.specs.Teams.{balls_of, pot_of};
 ghost use Rattle.sources.specs.Sources.{NoneIn};
-ghost use Rattle.scripts.specs.Scripts.{At, Decided, FirstIn, FirstOf, HasOrder, HoldsTeams, Made, NoneOf, ScriptAnswers, ScriptHolds, Scripted, script_of};
+ghost use Rattle.scripts.specs.Scripts.{At, Decided, FirstIn, FirstOf, HasOrder, HoldsTeams, Made, NoneOf, ScriptAnswers, ScriptHolds};
 ghost use Rattle.scripts.specs.Laws.{gave};
 ghost use Rattle.std.proofs.Common.{rules};
 

@@ -1,5 +1,5 @@
 // What one record after the first makes of the sheet record.
-ghost use Rattle.std.specs.Prelude.{◌≡◌, ◌<◌, length, is_ok, if◌then◌else◌, Some, None, Ok, Err, nat_le, slice_index_or, slice_set};
+ghost use Rattle.std.specs.Prelude.{◌≡◌, ◌<◌, is_ok, if◌then◌else◌, Some, Ok, Err, nat_le};
 ghost use Rattle.records.specs.Refusals.{fault};
 ghost use Rattle.records.specs.declared.refusal.SheetRefusal.TheVariants.{TooManyPairs};
 ghost use Rattle.sheets.specs.Entrants.{entrant};
