@@ -20,23 +20,15 @@ pub struct Script {
     balls: BallSet,
 }
 
-// Whether there is an order, and it is one of so many balls.
-fn has_order(order: &Option<[u8; 16]>, balls: u8) -> bool
-    ensures { Decides result (HasOrder balls order.now) }
-{
-    matches!(order, Some(order) if is_order(order, balls))
-}
-
 // Whether each pot of the shape has an order of its balls.
 fn all_ordered(shape: Shape, orders: &[Option<[u8; 16]>; 6]) -> bool
     requires { shape.pots ≤ 6 }
     ensures { Decides result ((pot : ℕ) → pot < shape.pots → HasOrder shape.groups (slice_index_or orders.now pot None)) }
 {
     let Shape { groups, pots } = shape;
-    orders
-        .iter()
-        .take(usize::from(pots))
-        .all(|order| has_order(order, groups))
+    orders.iter().take(usize::from(pots)).all(
+        |order| matches!(order, Some(order) if is_order(order, groups)),
+    )
 }
 
 // The team of the first ball of an order that is in.
