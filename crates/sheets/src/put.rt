@@ -86,6 +86,7 @@ impl Sheet {
         ensures after { self.new ≡ (if is_ok result then taken self.old item else self.old) }
     {
         let shape = self.shape;
+        let out_of_range = SheetRefusal::OutOfRange.at(place);
         match item {
             Record::Shape { .. } => Err(SheetRefusal::ShapeMisplaced.at(place)),
             Record::Team {
@@ -119,11 +120,7 @@ impl Sheet {
             | Record::Pair { .. }
             | Record::Cap { .. }
             | Record::Bars { .. }
-            | Record::Script { .. } => {
-                // written out: behind a call the proof would not know which of these came
-                let refusal = SheetRefusal::OutOfRange;
-                Err(SheetFault { refusal, place })
-            }
+            | Record::Script { .. } => Err(out_of_range),
         }
     }
 }
