@@ -1,6 +1,6 @@
 -- The tests of a record, and the conditions that they decide.
 use Rattle.std.proofs.Common.{◌≡◌, ℕ, ◌+◌, ◌*◌, ◌<◌, Bool, true, false, cond, not, ◌&&◌, ◌||◌, eqb, ltb, ◌⊎◌, List, length, get_or, is_some, Some, None, Decides, Option, sym, refl, ap, ◌∙◌, inl, inr, ⊎_elim, arith}
-use Rattle.std.proofs.lemmas.Bool.{true≢false, cases_lt, cond-true, lt-ltb}
+use Rattle.std.proofs.lemmas.Bool.{false_from_ne_true, not_from_false, true≢false, cases_lt, cond-true, lt-ltb}
 use Rattle.std.proofs.lemmas.Bool.Decides.{nat_tests, Decides-at, Decides-like, Decides-not, Decides-and, Decides-ltb, Decides-eqb}
 use Rattle.shapes.specs.declared.Shape.{Shape}
 use Rattle.shapes.specs.Teams.{Sized, balls_of, HasTeam, has_team}
@@ -131,10 +131,6 @@ decides_unless : {P Q : Type 0} (x y : Bool) → Decides x P → Decides y Q →
 decides_unless true y p q = (λ h _. q.0 h, λ f. q.1 (f (p.0 refl)))
 decides_unless false y p q = (λ _ a. absurd (true≢false (sym (p.1 a))), λ _. refl)
 
-not_so : (b : Bool) → (b ≡ true → ⊥) → not b ≡ true
-not_so true h = absurd (h refl)
-not_so false h = refl
-
 -- by whether a seed is there
 by_seed : {P Q : Type 0} (o : Option ℕ) (x y : Bool) → Decides x P → Decides y Q
     → Decides (cond (is_some o) x y) (((o ≡ None → ⊥) × P) ⊎ ((o ≡ None) × Q))
@@ -170,7 +166,7 @@ module _ (sh : Shape) (rs : List Record) (z : Sized sh.groups sh.pots) where
   decides_no_script =
       let any = decides_any (scripted (said sh rs)) (λ pot. scripted (said sh rs) pot ≡ true) (λ pot. (λ h. h, λ h. h)) 6 in
       Decides-like (not (any_script (said sh rs)))
-      (λ h pot l. (decides_none (found (script_in pot) rs)).0 (ap not (sym (script_there pot l)) ∙ not_so (scripted (said sh rs) pot) (λ t. h (pot, l, t))))
+      (λ h pot l. (decides_none (found (script_in pot) rs)).0 (ap not (sym (script_there pot l)) ∙ not_from_false (scripted (said sh rs) pot) (false_from_ne_true (scripted (said sh rs) pot) (λ t. h (pot, l, t)))))
       (λ h q. true≢false (sym q.2 ∙ script_there q.0 q.1 ∙ ap is_some (h q.0 q.1)))
       (Decides-not (any_script (said sh rs)) any)
 

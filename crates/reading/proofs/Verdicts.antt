@@ -1,6 +1,6 @@
 -- The answer to a record after others, and the conditions that it goes by.
 use Rattle.std.proofs.Common.{◌≡◌, ℕ, ◌+◌, Bool, true, false, cond, not, List, Ok, Err, Decides, Result, sym, refl, ap, ◌∙◌, subst, arith}
-use Rattle.std.proofs.lemmas.Bool.{not-true}
+use Rattle.std.proofs.lemmas.Bool.{false_from_ne_true, not-true, not-false}
 use Rattle.std.proofs.lemmas.Bool.Decides.{not_from_Decides}
 use Rattle.shapes.specs.declared.Shape.{Shape}
 use Rattle.shapes.specs.Teams.{Sized}
@@ -53,12 +53,10 @@ module _ (sh : Shape) (rs : List Record) (r : Record) (rest : List ℕ) (at : �
 
 -- and back: the answer, from the conditions
 pub no_to : {P : Type 0} (b : Bool) → Decides b P → (P → ⊥) → b ≡ false
-no_to true d h = absurd (h (d.0 refl))
-no_to false d h = refl
+no_to b d h = false_from_ne_true b (λ t. h (d.0 t))
 
 not_to : {P : Type 0} (b : Bool) → Decides (not b) P → (P → ⊥) → b ≡ true
-not_to true d h = refl
-not_to false d h = absurd (h (d.0 refl))
+not_to b d h = not-false b (no_to (not b) d h)
 
 module _ (sh : Shape) (rs : List Record) (r : Record) (at : ℕ) (z : Sized sh.groups sh.pots) where
   run : Result (Unit {0}) SheetFault
