@@ -1,5 +1,5 @@
 -- One record more, in what the records from a place on make of a sheet record.
-use Rattle.std.proofs.Common.{◌≡◌, ℕ, zero, suc, ◌+◌, ◌-◌, ◌≤◌, List, [], ◌∷◌, length, drop, Ok, Err, Result, sym, refl, ap, ◌∙◌, arith, lit≤, length-drop}
+use Rattle.std.proofs.Common.{◌≡◌, ℕ, zero, suc, ◌+◌, ◌-◌, ◌≤◌, List, [], ◌∷◌, length, drop, Ok, Err, IsErrAnd, Result, sym, refl, ap, ◌∙◌, arith, lit≤, length-drop}
 use Rattle.std.proofs.lemmas.List.{drop-drop}
 use Rattle.std.proofs.lemmas.Bool.Decides.{nat_tests}
 use Rattle.records.specs.declared.refusal.SheetFault.{SheetFault}
@@ -132,3 +132,8 @@ module _ (bytes : List ℕ) (s : Sheet) (p : ℕ) (at : Sofar bytes s p) where
           enough = omega (arith, at.enough, g.1, size_some r);
           leads = next (Ok tt) v;
         }
+
+-- an answer that passes a fault on
+pub refuses : (bytes : List ℕ) (o : Result Sheet SheetFault) (f : SheetFault) → IsErrAnd o (λ e. e ≡ f) → Err f ≡ reading bytes → o ≡ reading bytes
+refuses bytes (Ok s) f h e = absurd h
+refuses bytes (Err g) f h e = ap Err h ∙ e

@@ -41,6 +41,7 @@ fn whole_sheet(bytes: &[u8]) -> Result<Sheet, SheetFault>
 {
     let mut sheet = begin(bytes)?;
     let mut place = 3;
+    // where a record ends is known once it is read
     loop {
         let item = record_at(&bytes[place..], place)?;
         if let Record::End = item {
