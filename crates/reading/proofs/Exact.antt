@@ -14,7 +14,7 @@ use Rattle.records.specs.Forms.{Form, size_of, decoded}
 use Rattle.records.specs.Refusals.{fault}
 use Rattle.sheets.specs.declared.sheet.Sheet.{Sheet}
 use Rattle.sheets.specs.Taking.{blank, is_shape, verdict, taken, is_whole}
-use Rattle.reading.specs.Reading.{bind, at_end, started, shaped, opened, closed, going, reading}
+use Rattle.reading.specs.Reading.{bind, started, shaped, opened, closed, going, reading}
 use Rattle.reading.specs.Format.{Front, said, IsShape, Next, Whole, Begun, Accepted, FailsFirst, Fails, beyond, Refused, Exact}
 use Rattle.reading.proofs.Going.{turn, not_end, size_some, Sofar, start, start_err, record_err, put_err, put_more, ended}
 use Rattle.reading.proofs.Fronts.{form_of, front_of, form_size, reads, end_at, unknown, short, no_record}
@@ -27,21 +27,14 @@ abbrev pub Out : List ℕ → Result Sheet SheetFault → Type 0
 Out bs (Ok t) = Accepted bs t
 Out bs (Err f) = Refused bs f
 
--- 1 at the end record, and 0 at any other
-abbrev ends : Record → ℕ
-ends r = at_end r 1 0
-
-no_end : (r : Record) → ends r ≡ 0 → r ≡ End → ⊥
-no_end r h e = let k = ap ends e in omega arith
-
 end_or_not : (r : Record) → (r ≡ End) ⊎ (r ≡ End → ⊥)
-end_or_not (ShapeRecord g p) = inr (no_end (ShapeRecord g p) refl)
-end_or_not (Team pot ball a c) = inr (no_end (Team pot ball a c) refl)
-end_or_not (Pair a b) = inr (no_end (Pair a b) refl)
-end_or_not (Cap a m) = inr (no_end (Cap a m) refl)
-end_or_not (Bars n g) = inr (no_end (Bars n g) refl)
-end_or_not (Seed x) = inr (no_end (Seed x) refl)
-end_or_not (Script pot o) = inr (no_end (Script pot o) refl)
+end_or_not (ShapeRecord g p) = inr (λ e. cc)
+end_or_not (Team pot ball a c) = inr (λ e. cc)
+end_or_not (Pair a b) = inr (λ e. cc)
+end_or_not (Cap a m) = inr (λ e. cc)
+end_or_not (Bars n g) = inr (λ e. cc)
+end_or_not (Seed x) = inr (λ e. cc)
+end_or_not (Script pot o) = inr (λ e. cc)
 end_or_not End = inl refl
 
 closed_early : (s : Sheet) (at len : ℕ) → at + 1 < len → closed s at len ≡ Err (fault BytesAfterEnd (at + 1))
@@ -136,7 +129,7 @@ module _ (bs : List ℕ) (sh : Shape) where
 
 -- the first record
 sized_from : (g p : ℕ) → sized g p ≡ true → Sized g p
-sized_from g p h = ((grind (arith, nat_tests), grind (arith, nat_tests)), (grind (arith, nat_tests), grind (arith, nat_tests)))
+sized_from g p h = grind (arith, nat_tests)
 
 sized_to : (g p : ℕ) → Sized g p → sized g p ≡ true
 sized_to g p h = grind (arith, nat_tests)
@@ -244,7 +237,7 @@ accepted_reads bs t w =
     sym (ended bs (said sh rs) at s End d refl (Ok tt) c) ∙ ap Ok (sym w.says)
 
 not_shape_end : (r : Record) → IsShape r → r ≡ End → ⊥
-not_shape_end r w e = no_end r (ap ends w.2) e
+not_shape_end r w e = cc (w.2)
 
 -- a fault is told
 module _ (bs : List ℕ) (sh : Shape) (rs : List Record) (at : ℕ) (rest : List ℕ) (b : Begun bs sh rs at rest) where

@@ -1,6 +1,7 @@
 -- A record at the front of bytes: what is decoded there, and what its form says.
 use Rattle.std.proofs.Common.{◌≡◌, ℕ, suc, ◌+◌, ◌*◌, ◌<◌, ◌≤◌, ◌⊎◌, List, [], ◌∷◌, ◌++◌, length, get_or, take, drop, Some, None, Ok, Err, Option, Result, sym, refl, ap, ◌∙◌, inl, inr, arith}
-use Rattle.std.proofs.lemmas.List.{take-append-drop, length-take-le, length-append, length-drop, take_at}
+use Rattle.std.proofs.lemmas.List.{take-append-drop, length-append, length-drop, take_at}
+use Rattle.std.proofs.lemmas.Grind.{common_steps}
 use Rattle.std.proofs.lemmas.Bool.Decides.{nat_tests}
 use Rattle.records.specs.declared.refusal.SheetFault.{SheetFault}
 use Rattle.records.specs.declared.refusal.SheetRefusal.TheVariants.{UnknownKind, CutShort}
@@ -11,117 +12,48 @@ use Rattle.records.specs.Refusals.{fault}
 use Rattle.reading.specs.Format.{Front, Unknown, Short}
 use Rattle.reading.proofs.Going.{decoded_size}
 
--- the first bytes of a list that is long enough
-take1 : (bs : List ℕ) → 1 ≤ length bs → take 1 bs ≡ get_or bs 0 0 ∷ []
-take1 [] h = absurd (omega arith)
-take1 (a ∷ r) h = refl
-
-take3 : (bs : List ℕ) → 3 ≤ length bs → take 3 bs ≡ get_or bs 0 0 ∷ get_or bs 1 0 ∷ get_or bs 2 0 ∷ []
-take3 [] h = absurd (omega arith)
-take3 (a ∷ []) h = absurd (omega arith)
-take3 (a ∷ b ∷ []) h = absurd (omega arith)
-take3 (a ∷ b ∷ c ∷ r) h = refl
-
-take4 : (bs : List ℕ) → 4 ≤ length bs → take 4 bs ≡ get_or bs 0 0 ∷ get_or bs 1 0 ∷ get_or bs 2 0 ∷ get_or bs 3 0 ∷ []
-take4 [] h = absurd (omega arith)
-take4 (a ∷ bs) h = ap (λ l. a ∷ l) (take3 bs (omega arith))
-
-take7 : (bs : List ℕ) → 7 ≤ length bs
-    → take 7 bs ≡ get_or bs 0 0 ∷ get_or bs 1 0 ∷ get_or bs 2 0 ∷ get_or bs 3 0 ∷ get_or bs 4 0 ∷ get_or bs 5 0 ∷ get_or bs 6 0 ∷ []
-take7 [] h = absurd (omega arith)
-take7 (a ∷ []) h = absurd (omega arith)
-take7 (a ∷ b ∷ []) h = absurd (omega arith)
-take7 (a ∷ b ∷ c ∷ bs) h = ap (λ l. a ∷ b ∷ c ∷ l) (take4 bs (omega arith))
-
 -- eight bytes spell the same number, whatever stands behind them
 take8 : (bs : List ℕ) → 8 ≤ length bs → eight bs ≡ eight (take 8 bs)
-take8 [] h = absurd (omega arith)
-take8 (a ∷ []) h = absurd (omega arith)
-take8 (a ∷ b ∷ []) h = absurd (omega arith)
-take8 (a ∷ b ∷ c ∷ []) h = absurd (omega arith)
-take8 (a ∷ b ∷ c ∷ d ∷ []) h = absurd (omega arith)
-take8 (a ∷ b ∷ c ∷ d ∷ e ∷ []) h = absurd (omega arith)
-take8 (a ∷ b ∷ c ∷ d ∷ e ∷ f ∷ []) h = absurd (omega arith)
-take8 (a ∷ b ∷ c ∷ d ∷ e ∷ f ∷ g ∷ []) h = absurd (omega arith)
-take8 (a ∷ b ∷ c ∷ d ∷ e ∷ f ∷ g ∷ k ∷ r) h = refl
-
-take9 : (bs : List ℕ) → 1 ≤ length bs → take 9 bs ≡ get_or bs 0 0 ∷ take 8 (drop 1 bs)
-take9 [] h = absurd (omega arith)
-take9 (a ∷ r) h = refl
-
-take18 : (bs : List ℕ) → 2 ≤ length bs → take 18 bs ≡ get_or bs 0 0 ∷ get_or bs 1 0 ∷ take 16 (drop 2 bs)
-take18 [] h = absurd (omega arith)
-take18 (a ∷ []) h = absurd (omega arith)
-take18 (a ∷ b ∷ r) h = refl
+take8 bs h = grind (arith, common_steps)
 
 -- what was decoded has its form there, kind by kind
 module _ (bs : List ℕ) (at : ℕ) where
-  shape_bytes : (g p : ℕ) → decoded bs at ≡ Ok (ShapeRecord g p) → (get_or bs 0 0 ≡ 71) × (get_or bs 1 0 ≡ g) × (get_or bs 2 0 ≡ p)
-  shape_bytes g p h = (grind (arith, nat_tests), grind (arith, nat_tests), grind (arith, nat_tests))
+  shape_form : (g p : ℕ) → decoded bs at ≡ Ok (ShapeRecord g p) → Form (ShapeRecord g p) (take 3 bs)
+  shape_form g p h = grind (arith, nat_tests, common_steps)
 
-  team_bytes : (pot ball a : ℕ) (c : List ℕ) → decoded bs at ≡ Ok (Team pot ball a c)
-      → (get_or bs 0 0 ≡ 84) × (get_or bs 1 0 ≡ pot) × (get_or bs 2 0 ≡ ball) × (get_or bs 3 0 ≡ a) × (get_or bs 4 0 ∷ get_or bs 5 0 ∷ get_or bs 6 0 ∷ [] ≡ c)
-  team_bytes pot ball a c h = (grind (arith, nat_tests), grind (arith, nat_tests), grind (arith, nat_tests), grind (arith, nat_tests), grind (arith, nat_tests))
+  team_form : (pot ball a : ℕ) (c : List ℕ) → decoded bs at ≡ Ok (Team pot ball a c) → Form (Team pot ball a c) (take 7 bs)
+  team_form pot ball a c h = (grind (arith, nat_tests, common_steps), grind (arith, nat_tests, common_steps))
 
-  pair_bytes : (a b : ℕ) → decoded bs at ≡ Ok (Pair a b) → (get_or bs 0 0 ≡ 88) × (get_or bs 1 0 ≡ a) × (get_or bs 2 0 ≡ b)
-  pair_bytes a b h = (grind (arith, nat_tests), grind (arith, nat_tests), grind (arith, nat_tests))
+  pair_form : (a b : ℕ) → decoded bs at ≡ Ok (Pair a b) → Form (Pair a b) (take 3 bs)
+  pair_form a b h = grind (arith, nat_tests, common_steps)
 
-  cap_bytes : (a m : ℕ) → decoded bs at ≡ Ok (Cap a m) → (get_or bs 0 0 ≡ 67) × (get_or bs 1 0 ≡ a) × (get_or bs 2 0 ≡ m)
-  cap_bytes a m h = (grind (arith, nat_tests), grind (arith, nat_tests), grind (arith, nat_tests))
+  cap_form : (a m : ℕ) → decoded bs at ≡ Ok (Cap a m) → Form (Cap a m) (take 3 bs)
+  cap_form a m h = grind (arith, nat_tests, common_steps)
 
-  bars_bytes : (n g : ℕ) → decoded bs at ≡ Ok (Bars n g) → (get_or bs 0 0 ≡ 66) × (get_or bs 1 0 ≡ n) × (g ≡ get_or bs 2 0 * 256 + get_or bs 3 0)
-  bars_bytes n g h = (grind (arith, nat_tests), grind (arith, nat_tests), grind (arith, nat_tests))
+  bars_form : (n g : ℕ) → decoded bs at ≡ Ok (Bars n g) → Form (Bars n g) (take 4 bs)
+  bars_form n g h = (get_or bs 2 0, get_or bs 3 0, grind (arith, nat_tests, common_steps), grind (arith, nat_tests, common_steps))
 
-  seed_bytes : (s : ℕ) → decoded bs at ≡ Ok (Seed s) → (get_or bs 0 0 ≡ 85) × (s ≡ eight (drop 1 bs))
-  seed_bytes s h = (grind (arith, nat_tests), grind (arith, nat_tests))
+  seed_form : (s : ℕ) → decoded bs at ≡ Ok (Seed s) → Form (Seed s) (take 9 bs)
+  seed_form s h =
+      let l = decoded_size bs at (Seed s) h in
+      let e = take8 (drop 1 bs) (simp length-drop (omega arith)) in
+      (take 8 (drop 1 bs), grind (arith, nat_tests, common_steps), grind (arith, nat_tests, common_steps), grind (arith, nat_tests, common_steps))
 
-  script_bytes : (pot : ℕ) (o : List ℕ) → decoded bs at ≡ Ok (Script pot o) → (get_or bs 0 0 ≡ 83) × (get_or bs 1 0 ≡ pot) × (take 16 (drop 2 bs) ≡ o)
-  script_bytes pot o h = (grind (arith, nat_tests), grind (arith, nat_tests), grind (arith, nat_tests))
+  script_form : (pot : ℕ) (o : List ℕ) → decoded bs at ≡ Ok (Script pot o) → Form (Script pot o) (take 18 bs)
+  script_form pot o h = (grind (arith, nat_tests, common_steps), grind (arith, nat_tests, common_steps))
 
-  end_bytes : decoded bs at ≡ Ok End → get_or bs 0 0 ≡ 90
-  end_bytes h = grind (arith, nat_tests)
+  end_form : decoded bs at ≡ Ok End → Form End (take 1 bs)
+  end_form h = grind (arith, nat_tests, common_steps)
 
--- the form, from the bytes
-module _ (bs : List ℕ) where
-  shape_form : (g p : ℕ) → 3 ≤ length bs → (get_or bs 0 0 ≡ 71) × (get_or bs 1 0 ≡ g) × (get_or bs 2 0 ≡ p) → Form (ShapeRecord g p) (take 3 bs)
-  shape_form g p l h = cc (take3 bs l)
-
-  team_form : (pot ball a : ℕ) (c : List ℕ) → 7 ≤ length bs
-      → (get_or bs 0 0 ≡ 84) × (get_or bs 1 0 ≡ pot) × (get_or bs 2 0 ≡ ball) × (get_or bs 3 0 ≡ a) × (get_or bs 4 0 ∷ get_or bs 5 0 ∷ get_or bs 6 0 ∷ [] ≡ c)
-      → Form (Team pot ball a c) (take 7 bs)
-  team_form pot ball a c l h = (ap length (sym h.4), cc (take7 bs l))
-
-  pair_form : (a b : ℕ) → 3 ≤ length bs → (get_or bs 0 0 ≡ 88) × (get_or bs 1 0 ≡ a) × (get_or bs 2 0 ≡ b) → Form (Pair a b) (take 3 bs)
-  pair_form a b l h = cc (take3 bs l)
-
-  cap_form : (a m : ℕ) → 3 ≤ length bs → (get_or bs 0 0 ≡ 67) × (get_or bs 1 0 ≡ a) × (get_or bs 2 0 ≡ m) → Form (Cap a m) (take 3 bs)
-  cap_form a m l h = cc (take3 bs l)
-
-  bars_form : (n g : ℕ) → 4 ≤ length bs → (get_or bs 0 0 ≡ 66) × (get_or bs 1 0 ≡ n) × (g ≡ get_or bs 2 0 * 256 + get_or bs 3 0) → Form (Bars n g) (take 4 bs)
-  bars_form n g l h = (get_or bs 2 0, get_or bs 3 0, h.2, cc (take4 bs l))
-
-  seed_form : (s : ℕ) → 9 ≤ length bs → (get_or bs 0 0 ≡ 85) × (s ≡ eight (drop 1 bs)) → Form (Seed s) (take 9 bs)
-  seed_form s l h =
-      let k : 8 ≤ length (drop 1 bs) = simp length-drop (omega arith) in
-      (take 8 (drop 1 bs), length-take-le 8 (drop 1 bs) k, h.1 ∙ take8 (drop 1 bs) k, take9 bs (omega arith) ∙ ap (λ x. x ∷ take 8 (drop 1 bs)) h.0)
-
-  script_form : (pot : ℕ) (o : List ℕ) → 18 ≤ length bs → (get_or bs 0 0 ≡ 83) × (get_or bs 1 0 ≡ pot) × (take 16 (drop 2 bs) ≡ o) → Form (Script pot o) (take 18 bs)
-  script_form pot o l h =
-      let k : 16 ≤ length (drop 2 bs) = simp length-drop (omega arith) in
-      (ap length (sym h.2) ∙ length-take-le 16 (drop 2 bs) k, cc (take18 bs (omega arith)))
-
-  end_form : 1 ≤ length bs → get_or bs 0 0 ≡ 90 → Form End (take 1 bs)
-  end_form l h = cc (take1 bs l)
-
-pub form_of : (bs : List ℕ) (at : ℕ) (r : Record) → decoded bs at ≡ Ok r → Form r (take (size_of r) bs)
-form_of bs at (ShapeRecord g p) h = shape_form bs g p (decoded_size bs at (ShapeRecord g p) h) (shape_bytes bs at g p h)
-form_of bs at (Team pot ball a c) h = team_form bs pot ball a c (decoded_size bs at (Team pot ball a c) h) (team_bytes bs at pot ball a c h)
-form_of bs at (Pair a b) h = pair_form bs a b (decoded_size bs at (Pair a b) h) (pair_bytes bs at a b h)
-form_of bs at (Cap a m) h = cap_form bs a m (decoded_size bs at (Cap a m) h) (cap_bytes bs at a m h)
-form_of bs at (Bars n g) h = bars_form bs n g (decoded_size bs at (Bars n g) h) (bars_bytes bs at n g h)
-form_of bs at (Seed s) h = seed_form bs s (decoded_size bs at (Seed s) h) (seed_bytes bs at s h)
-form_of bs at (Script pot o) h = script_form bs pot o (decoded_size bs at (Script pot o) h) (script_bytes bs at pot o h)
-form_of bs at End h = end_form bs (decoded_size bs at End h) (end_bytes bs at h)
+  pub form_of : (r : Record) → decoded bs at ≡ Ok r → Form r (take (size_of r) bs)
+  form_of (ShapeRecord g p) h = shape_form g p h
+  form_of (Team pot ball a c) h = team_form pot ball a c h
+  form_of (Pair a b) h = pair_form a b h
+  form_of (Cap a m) h = cap_form a m h
+  form_of (Bars n g) h = bars_form n g h
+  form_of (Seed s) h = seed_form s h
+  form_of (Script pot o) h = script_form pot o h
+  form_of End h = end_form h
 
 pub front_of : (bs : List ℕ) (at : ℕ) (r : Record) → decoded bs at ≡ Ok r → Front r bs
 front_of bs at r h = (take (size_of r) bs, drop (size_of r) bs, form_of bs at r h, sym (take-append-drop (size_of r) bs))
@@ -159,11 +91,7 @@ pub end_at : (rest : List ℕ) (at : ℕ) → decoded (90 ∷ rest) at ≡ Ok En
 end_at rest at = grind (arith, nat_tests)
 
 team_reads : (pot ball a : ℕ) (c rest : List ℕ) (at : ℕ) → length c ≡ 3 → decoded (84 ∷ pot ∷ ball ∷ a ∷ (c ++ rest)) at ≡ Ok (Team pot ball a c)
-team_reads pot ball a [] rest at h = absurd (omega arith)
-team_reads pot ball a (x ∷ []) rest at h = absurd (omega arith)
-team_reads pot ball a (x ∷ y ∷ []) rest at h = absurd (omega arith)
-team_reads pot ball a (x ∷ y ∷ z ∷ []) rest at h = grind (arith, nat_tests)
-team_reads pot ball a (x ∷ y ∷ z ∷ w ∷ c) rest at h = absurd (omega arith)
+team_reads pot ball a c rest at h = grind (arith, nat_tests, common_steps)
 
 seed_reads : (body rest : List ℕ) (at : ℕ) → length body ≡ 8 → decoded (85 ∷ (body ++ rest)) at ≡ Ok (Seed (eight body))
 seed_reads body rest at h =

@@ -1,5 +1,5 @@
 -- One record more, in what the records from a place on make of a sheet record.
-use Rattle.std.proofs.Common.{◌≡◌, ℕ, zero, suc, ◌+◌, ◌-◌, ◌≤◌, List, [], ◌∷◌, length, drop, Ok, Err, Result, sym, refl, ap, ◌∙◌, arith, lit≤, length-drop}
+use Rattle.std.proofs.Common.{◌≡◌, ℕ, zero, suc, ◌+◌, ◌-◌, ◌≤◌, List, [], ◌∷◌, length, drop, Ok, Err, IsErrAnd, Result, sym, refl, ap, ◌∙◌, arith, lit≤, length-drop}
 use Rattle.std.proofs.lemmas.List.{drop-drop}
 use Rattle.std.proofs.lemmas.Bool.Decides.{nat_tests}
 use Rattle.records.specs.declared.refusal.SheetFault.{SheetFault}
@@ -53,14 +53,14 @@ not_end End x y ne = absurd (ne refl)
 pub going_put : (n : ℕ) (s : Sheet) (bs : List ℕ) (at len : ℕ) (r : Record) → length bs ≤ n → decoded bs at ≡ Ok r → (r ≡ End → ⊥)
     → (m : ℕ) × (n ≡ suc m) × (going n s bs at len ≡ bind (verdict s r at) (λ _. going m (taken s r) (drop (size_of r) bs) (at + size_of r) len))
 unfolding going
-going_put zero s [] at len r l h ne = absurd (let z : ◌≡◌ {A = ℕ} 0 1 = cc in omega arith)
+going_put zero s [] at len r l h ne = cc
 going_put zero s (x ∷ bs) at len r l h ne = absurd (omega arith)
 going_put (suc n) s bs at len r l h ne =
     (n, refl, ap (turn n s bs at len) h ∙ not_end r (bind (closed s at len) (λ _. Ok s)) (bind (verdict s r at) (λ _. going n (taken s r) (drop (size_of r) bs) (at + size_of r) len)) ne)
 
 pub going_end : (n : ℕ) (s : Sheet) (bs : List ℕ) (at len : ℕ) → length bs ≤ n → decoded bs at ≡ Ok End → going n s bs at len ≡ bind (closed s at len) (λ _. Ok s)
 unfolding going
-going_end zero s [] at len l h = absurd (let z : ◌≡◌ {A = ℕ} 0 1 = cc in omega arith)
+going_end zero s [] at len l h = cc
 going_end zero s (x ∷ bs) at len l h = absurd (omega arith)
 going_end (suc n) s bs at len l h = ap (turn n s bs at len) h
 
@@ -73,17 +73,17 @@ pub record Sofar (bytes : List ℕ) (s : Sheet) (place : ℕ) : Type 0 where
 
 shaped_long : (bs : List ℕ) (s : Sheet) (r : Record) → decoded bs 0 ≡ Ok r → shaped r ≡ Ok s → 3 ≤ length bs
 shaped_long bs s (ShapeRecord g p) d h = decoded_size bs 0 (ShapeRecord g p) d
-shaped_long bs s (Team pot ball a c) d h = absurd (let z : ◌≡◌ {A = ℕ} 0 1 = cc in omega arith)
-shaped_long bs s (Pair a b) d h = absurd (let z : ◌≡◌ {A = ℕ} 0 1 = cc in omega arith)
-shaped_long bs s (Cap a m) d h = absurd (let z : ◌≡◌ {A = ℕ} 0 1 = cc in omega arith)
-shaped_long bs s (Bars n g) d h = absurd (let z : ◌≡◌ {A = ℕ} 0 1 = cc in omega arith)
-shaped_long bs s (Seed x) d h = absurd (let z : ◌≡◌ {A = ℕ} 0 1 = cc in omega arith)
-shaped_long bs s (Script pot o) d h = absurd (let z : ◌≡◌ {A = ℕ} 0 1 = cc in omega arith)
-shaped_long bs s End d h = absurd (let z : ◌≡◌ {A = ℕ} 0 1 = cc in omega arith)
+shaped_long bs s (Team pot ball a c) d h = cc
+shaped_long bs s (Pair a b) d h = cc
+shaped_long bs s (Cap a m) d h = cc
+shaped_long bs s (Bars n g) d h = cc
+shaped_long bs s (Seed x) d h = cc
+shaped_long bs s (Script pot o) d h = cc
+shaped_long bs s End d h = cc
 
 pub bind_ok : {X Y : Type 0} (o : Result X SheetFault) (f : X → Result Y SheetFault) (y : Y) → bind o f ≡ Ok y → (x : X) × (o ≡ Ok x) × (f x ≡ Ok y)
 bind_ok (Ok x) f y h = (x, refl, h)
-bind_ok (Err e) f y h = absurd (let z : ◌≡◌ {A = ℕ} 0 1 = cc in omega arith)
+bind_ok (Err e) f y h = cc
 
 pub start : (bytes : List ℕ) (s : Sheet) → opened bytes ≡ Ok s → Sofar bytes s 3
 unfolding reading
@@ -132,3 +132,8 @@ module _ (bytes : List ℕ) (s : Sheet) (p : ℕ) (at : Sofar bytes s p) where
           enough = omega (arith, at.enough, g.1, size_some r);
           leads = next (Ok tt) v;
         }
+
+-- an answer that passes a fault on
+pub refuses : (bytes : List ℕ) (o : Result Sheet SheetFault) (f : SheetFault) → IsErrAnd o (λ e. e ≡ f) → Err f ≡ reading bytes → o ≡ reading bytes
+refuses bytes (Ok s) f h e = absurd h
+refuses bytes (Err g) f h e = ap Err h ∙ e

@@ -1,10 +1,10 @@
 -- The tests of a record, and the conditions that they decide.
 use Rattle.std.proofs.Common.{◌≡◌, ℕ, ◌+◌, ◌*◌, ◌<◌, Bool, true, false, cond, not, ◌&&◌, ◌||◌, eqb, ltb, ◌⊎◌, List, length, get_or, is_some, Some, None, Decides, Option, sym, refl, ap, ◌∙◌, inl, inr, ⊎_elim, arith}
-use Rattle.std.proofs.lemmas.Bool.{true≢false, cases_lt, cond-true, lt-ltb}
+use Rattle.std.proofs.lemmas.Bool.{false_from_ne_true, not_from_false, true≢false, cases_lt, cond-true, lt-ltb}
 use Rattle.std.proofs.lemmas.Bool.Decides.{nat_tests, Decides-at, Decides-like, Decides-not, Decides-and, Decides-ltb, Decides-eqb}
 use Rattle.shapes.specs.declared.Shape.{Shape}
 use Rattle.shapes.specs.Teams.{Sized, balls_of, HasTeam, has_team}
-use Rattle.shapes.proofs.Balls.{ball_number, balls_few}
+use Rattle.shapes.proofs.Balls.{ball_number, balls_few, decides_team}
 use Rattle.orders.proofs.Scans.{decides_all, decides_any}
 use Rattle.orders.proofs.Deciding.{decides_order}
 use Rattle.records.specs.declared.item.Record.{Record}
@@ -14,17 +14,14 @@ use Rattle.sheets.specs.Taking.{is_shape, fits, repeated, crowded, ordered, bars
 use Rattle.reading.specs.Format.{said, found, team_in, cap_in, bars_in, seed_in, script_in, pairs_in, Fits, Fresh, Room, Ordered, IsShape, Whole, FromUrn, FromScripts}
 use Rattle.reading.proofs.Saying.{get_or_each}
 
-clash : {P : Type 0} → false ≡ true → P
-clash h = absurd (true≢false (sym h))
-
 -- nothing was found
 pub decides_none : {X : Type 0} (o : Option X) → Decides (not (is_some o)) (o ≡ None)
-decides_none (Some x) = (λ h. clash h, λ e. absurd (let z : ◌≡◌ {A = ℕ} 0 1 = cc in omega arith))
+decides_none (Some x) = (λ h. cc, λ e. cc)
 decides_none None = (λ h. refl, λ e. refl)
 
 decides_some : {X : Type 0} (o : Option X) → Decides (is_some o) (o ≡ None → ⊥)
-decides_some (Some x) = (λ h e. let z : ◌≡◌ {A = ℕ} 0 1 = cc in omega arith, λ n. refl)
-decides_some None = (λ h. clash h, λ n. absurd (n refl))
+decides_some (Some x) = (λ h e. cc, λ n. refl)
+decides_some None = (λ h. cc, λ n. absurd (n refl))
 
 decides_yes : Decides true (Unit {0})
 decides_yes = (λ h. tt, λ u. refl)
@@ -68,26 +65,19 @@ module _ (sh : Shape) (rs : List Record) where
 -- one test after the other
 is_shape_lem : (r : Record) → is_shape r ≡ true → IsShape r
 is_shape_lem (ShapeRecord g p) h = (g, p, refl)
-is_shape_lem (Team pot ball a c) h = clash h
-is_shape_lem (Pair a b) h = clash h
-is_shape_lem (Cap a m) h = clash h
-is_shape_lem (Bars n g) h = clash h
-is_shape_lem (Seed x) h = clash h
-is_shape_lem (Script pot o) h = clash h
-is_shape_lem End h = clash h
+is_shape_lem (Team pot ball a c) h = cc
+is_shape_lem (Pair a b) h = cc
+is_shape_lem (Cap a m) h = cc
+is_shape_lem (Bars n g) h = cc
+is_shape_lem (Seed x) h = cc
+is_shape_lem (Script pot o) h = cc
+is_shape_lem End h = cc
 
 pub decides_shape : (r : Record) → Decides (is_shape r) (IsShape r)
 decides_shape r = (is_shape_lem r, λ w. ap is_shape w.2)
 
-decides_has : (sh : Shape) (n : ℕ) → Decides (has_team sh n) (HasTeam sh n)
-decides_has sh n = (λ h. (grind (arith, nat_tests), grind (arith, nat_tests)), λ p. grind (arith, nat_tests))
-
 team_from : (sh : Shape) (pot ball a : ℕ) (c : List ℕ) → fits sh (Team pot ball a c) ≡ true → Fits sh (Team pot ball a c)
-team_from sh pot ball a c h = (
-  grind (arith, nat_tests),
-  grind (arith, nat_tests),
-  ((grind (arith, nat_tests), grind (arith, nat_tests)), (grind (arith, nat_tests), grind (arith, nat_tests)), (grind (arith, nat_tests), grind (arith, nat_tests))),
-)
+team_from sh pot ball a c h = grind (arith, nat_tests)
 
 team_to : (sh : Shape) (pot ball a : ℕ) (c : List ℕ) → Sized sh.groups sh.pots → Fits sh (Team pot ball a c) → fits sh (Team pot ball a c) ≡ true
 team_to sh pot ball a c z f = grind (arith, nat_tests)
@@ -97,10 +87,10 @@ decides_fits sh (ShapeRecord g p) z = decides_yes
 decides_fits sh (Team pot ball a c) z = (team_from sh pot ball a c, team_to sh pot ball a c z)
 decides_fits sh (Pair a b) z =
     Decides-like _ (λ q. (q.0, q.1.0, q.1.1)) (λ q. (q.0, (q.1, q.2)))
-    (Decides-and (not (eqb a b)) (has_team sh a && has_team sh b) (Decides-not (eqb a b) (Decides-eqb a b)) (Decides-and (has_team sh a) (has_team sh b) (decides_has sh a) (decides_has sh b)))
-decides_fits sh (Cap a m) z = (λ h. ((grind (arith, nat_tests), grind (arith, nat_tests)), (grind (arith, nat_tests), grind (arith, nat_tests))), λ p. grind (arith, nat_tests))
+    (Decides-and (not (eqb a b)) (has_team sh a && has_team sh b) (Decides-not (eqb a b) (Decides-eqb a b)) (Decides-and (has_team sh a) (has_team sh b) (decides_team sh a) (decides_team sh b)))
+decides_fits sh (Cap a m) z = (λ h. grind (arith, nat_tests), λ p. grind (arith, nat_tests))
 decides_fits sh (Bars n g) z =
-    Decides-and (has_team sh n) (bars_fit g sh.groups) (decides_has sh n) ((λ h. grind (arith, nat_tests)), λ p. grind (arith, nat_tests))
+    Decides-and (has_team sh n) (bars_fit g sh.groups) (decides_team sh n) ((λ h. grind (arith, nat_tests)), λ p. grind (arith, nat_tests))
 decides_fits sh (Seed x) z = decides_yes
 decides_fits sh (Script pot o) z = (λ h. grind (arith, nat_tests), λ p. grind (arith, nat_tests))
 decides_fits sh End z = decides_yes
@@ -141,16 +131,12 @@ decides_unless : {P Q : Type 0} (x y : Bool) → Decides x P → Decides y Q →
 decides_unless true y p q = (λ h _. q.0 h, λ f. q.1 (f (p.0 refl)))
 decides_unless false y p q = (λ _ a. absurd (true≢false (sym (p.1 a))), λ _. refl)
 
-not_so : (b : Bool) → (b ≡ true → ⊥) → not b ≡ true
-not_so true h = absurd (h refl)
-not_so false h = refl
-
 -- by whether a seed is there
 by_seed : {P Q : Type 0} (o : Option ℕ) (x y : Bool) → Decides x P → Decides y Q
     → Decides (cond (is_some o) x y) (((o ≡ None → ⊥) × P) ⊎ ((o ≡ None) × Q))
 by_seed (Some v) x y p q = (
-  λ h. inl (λ e. let k : ◌≡◌ {A = ℕ} 0 1 = cc in omega arith, p.0 h),
-  λ w. ⊎_elim (λ a. p.1 a.1) (λ b. let k = b.0 in let k : ◌≡◌ {A = ℕ} 0 1 = cc in absurd (omega arith)) w,
+  λ h. inl (λ e. cc, p.0 h),
+  λ w. ⊎_elim (λ a. p.1 a.1) (λ b. let k = b.0 in cc) w,
 )
 by_seed None x y p q = (
   λ h. inr (refl, q.0 h),
@@ -163,7 +149,7 @@ module _ (sh : Shape) (rs : List Record) (z : Sized sh.groups sh.pots) where
   team_there n =
       ⊎_elim
       (λ l. decides_unless (has_team (said sh rs).shape n) (is_some (get_or (said sh rs).teams n None))
-      (Decides-at _ _ (ap (λ s. has_team s n) (shape_said sh rs)) (decides_has sh n))
+      (Decides-at _ _ (ap (λ s. has_team s n) (shape_said sh rs)) (decides_team sh n))
       (Decides-at _ _ (ap is_some (team_said sh rs n l)) (decides_some (found (team_in n) rs))))
       (λ g. (λ _ p. absurd (omega arith), λ _. let e = shape_said sh rs in grind (arith, nat_tests)))
       (cases_lt n 96)
@@ -180,7 +166,7 @@ module _ (sh : Shape) (rs : List Record) (z : Sized sh.groups sh.pots) where
   decides_no_script =
       let any = decides_any (scripted (said sh rs)) (λ pot. scripted (said sh rs) pot ≡ true) (λ pot. (λ h. h, λ h. h)) 6 in
       Decides-like (not (any_script (said sh rs)))
-      (λ h pot l. (decides_none (found (script_in pot) rs)).0 (ap not (sym (script_there pot l)) ∙ not_so (scripted (said sh rs) pot) (λ t. h (pot, l, t))))
+      (λ h pot l. (decides_none (found (script_in pot) rs)).0 (ap not (sym (script_there pot l)) ∙ not_from_false (scripted (said sh rs) pot) (false_from_ne_true (scripted (said sh rs) pot) (λ t. h (pot, l, t)))))
       (λ h q. true≢false (sym q.2 ∙ script_there q.0 q.1 ∙ ap is_some (h q.0 q.1)))
       (Decides-not (any_script (said sh rs)) any)
 

@@ -1,6 +1,7 @@
 -- The answer to a record after others, and the conditions that it goes by.
 use Rattle.std.proofs.Common.{◌≡◌, ℕ, ◌+◌, Bool, true, false, cond, not, List, Ok, Err, Decides, Result, sym, refl, ap, ◌∙◌, subst, arith}
-use Rattle.std.proofs.lemmas.Bool.{not-true, true≢false}
+use Rattle.std.proofs.lemmas.Bool.{false_from_ne_true, not-true, not-false}
+use Rattle.std.proofs.lemmas.Bool.Decides.{not_from_Decides}
 use Rattle.shapes.specs.declared.Shape.{Shape}
 use Rattle.shapes.specs.Teams.{Sized}
 use Rattle.records.specs.declared.refusal.SheetFault.{SheetFault}
@@ -24,9 +25,6 @@ abbrev pub Says : Shape → List Record → Record → List ℕ → ℕ → Resu
 Says sh rs r rest at (Ok u) = Next sh rs r
 Says sh rs r rest at (Err f) = Fails f.refusal sh rs rest × (f.place ≡ at + beyond f.refusal)
 
-no_from : {P : Type 0} (b : Bool) → Decides b P → b ≡ false → P → ⊥
-no_from b d h p = true≢false (sym (d.1 p) ∙ h)
-
 module _ (sh : Shape) (rs : List Record) (r : Record) (rest : List ℕ) (at : ℕ) (front : Front r rest) (ne : r ≡ End → ⊥) where
   here : at ≡ at + 0
   here = omega arith
@@ -34,19 +32,19 @@ module _ (sh : Shape) (rs : List Record) (r : Record) (rest : List ℕ) (at : �
   by_tests : (a b c d e : Bool) → Decides a (IsShape r) → Decides b (Fits sh r) → (Fits sh r → Decides (not c) (Fresh rs r)) → Decides (not d) (Room rs r) → Decides e (Ordered sh r)
       → Says sh rs r rest at (tests a b c d e at)
   by_tests true b c d e da db dc dd de = ((r, front, da.0 refl), here)
-  by_tests false false c d e da db dc dd de = ((r, front, (no_from false da refl, ne), no_from false db refl), here)
+  by_tests false false c d e da db dc dd de = ((r, front, (not_from_Decides false da refl, ne), not_from_Decides false db refl), here)
   by_tests false true true d e da db dc dd de =
       let f = db.0 refl in
-      ((r, front, (no_from false da refl, ne), f, no_from false (dc f) refl), here)
+      ((r, front, (not_from_Decides false da refl, ne), f, not_from_Decides false (dc f) refl), here)
   by_tests false true false true e da db dc dd de =
       let f = db.0 refl in
-      ((r, front, (no_from false da refl, ne), f, (dc f).0 refl, no_from false dd refl), here)
+      ((r, front, (not_from_Decides false da refl, ne), f, (dc f).0 refl, not_from_Decides false dd refl), here)
   by_tests false true false false false da db dc dd de =
       let f = db.0 refl in
-      ((r, front, (no_from false da refl, ne), f, (dc f).0 refl, dd.0 refl, no_from false de refl), here)
+      ((r, front, (not_from_Decides false da refl, ne), f, (dc f).0 refl, dd.0 refl, not_from_Decides false de refl), here)
   by_tests false true false false true da db dc dd de =
       let f = db.0 refl in
-      record { inner = (no_from false da refl, ne); fits = f; fresh = (dc f).0 refl; room = dd.0 refl; ordered = de.0 refl }
+      record { inner = (not_from_Decides false da refl, ne); fits = f; fresh = (dc f).0 refl; room = dd.0 refl; ordered = de.0 refl }
 
   pub judged : Sized sh.groups sh.pots → Says sh rs r rest at (verdict (said sh rs) r at)
   judged z =
@@ -55,12 +53,10 @@ module _ (sh : Shape) (rs : List Record) (r : Record) (rest : List ℕ) (at : �
 
 -- and back: the answer, from the conditions
 pub no_to : {P : Type 0} (b : Bool) → Decides b P → (P → ⊥) → b ≡ false
-no_to true d h = absurd (h (d.0 refl))
-no_to false d h = refl
+no_to b d h = false_from_ne_true b (λ t. h (d.0 t))
 
 not_to : {P : Type 0} (b : Bool) → Decides (not b) P → (P → ⊥) → b ≡ true
-not_to true d h = refl
-not_to false d h = absurd (h (d.0 refl))
+not_to b d h = not-false b (no_to (not b) d h)
 
 module _ (sh : Shape) (rs : List Record) (r : Record) (at : ℕ) (z : Sized sh.groups sh.pots) where
   run : Result (Unit {0}) SheetFault

@@ -37,11 +37,11 @@ fn close(sheet: &Sheet, place: usize, len: usize) -> Result<(), SheetFault>
 }
 
 fn whole_sheet(bytes: &[u8]) -> Result<Sheet, SheetFault>
-    ensures value { result ≡ reading bytes.now }
-    ensures exact { Exact bytes.now result }
+    ensures { result ≡ reading bytes.now }
 {
     let mut sheet = begin(bytes)?;
     let mut place = 3;
+    // where a record ends is known once it is read
     loop {
         let item = record_at(&bytes[place..], place)?;
         if let Record::End = item {
@@ -55,13 +55,13 @@ fn whole_sheet(bytes: &[u8]) -> Result<Sheet, SheetFault>
 }
 
 // Fills the caller's sheet record with what the sheet says, or leaves it as it is and tells the first fault.
+#[tactic(auto, using(crate::proofs::Exact::exactly))]
 pub fn read(bytes: &[u8], sheet: &mut Sheet) -> Result<(), SheetFault>
     ensures answer { result ≡ answered (reading bytes.now) }
     ensures after { sheet.new ≡ filled (reading bytes.now) sheet.old }
     ensures exact { Exact bytes.now (told result sheet.new) }
     ensures kept { elim result [ Ok _ ↦ Unit {0} | Err _ ↦ sheet.new ≡ sheet.old ] }
 {
-    let said = whole_sheet(bytes)?;
-    *sheet = said;
+    *sheet = whole_sheet(bytes)?;
     Ok(())
 }

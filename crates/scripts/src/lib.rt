@@ -1,10 +1,10 @@
 // Balls that come in orders written down, one for each pot.
 #![tactic(auto)]
 
-ghost use Rattle.std.specs.Prelude.{◌≡◌, ℕ, ◌<◌, ◌≤◌, IfSome, None, Decides, MatchOption, slice_index, slice_index_or};
-ghost use Rattle.shapes.specs.Teams.{balls_of, pot_of};
+ghost use Rattle.std.specs.Prelude.{ℕ, ◌<◌, ◌≤◌, IfSome, None, Decides, MatchOption, slice_index_or};
+ghost use Rattle.shapes.specs.Teams.{pot_of};
 ghost use Rattle.sources.specs.Sources.{NoneIn};
-ghost use Rattle.scripts.specs.Scripts.{At, Decided, FirstIn, FirstOf, HasOrder, HoldsTeams, Made, NoneOf, ScriptAnswers, ScriptHolds, Scripted, script_of};
+ghost use Rattle.scripts.specs.Scripts.{At, Decided, FirstIn, FirstOf, HasOrder, HoldsTeams, Made, NoneOf, ScriptAnswers, ScriptHolds};
 ghost use Rattle.scripts.specs.Laws.{gave};
 ghost use Rattle.std.proofs.Common.{rules};
 
@@ -20,22 +20,15 @@ pub struct Script {
     balls: BallSet,
 }
 
-// Whether there is an order, and it is one of so many balls.
-fn has_order(order: &Option<[u8; 16]>, balls: u8) -> bool
-    ensures { Decides result (HasOrder balls order.now) }
-{
-    matches!(order, Some(order) if is_order(order, balls))
-}
-
 // Whether each pot of the shape has an order of its balls.
 fn all_ordered(shape: Shape, orders: &[Option<[u8; 16]>; 6]) -> bool
     requires { shape.pots ≤ 6 }
-    ensures { Decides result ((pot : ℕ) → pot < shape.pots → HasOrder (balls_of shape pot) (slice_index_or orders.now pot None)) }
+    ensures { Decides result ((pot : ℕ) → pot < shape.pots → HasOrder shape.groups (slice_index_or orders.now pot None)) }
 {
-    orders
-        .iter()
-        .take(usize::from(shape.pots))
-        .all(|order| has_order(order, shape.groups))
+    let Shape { groups, pots } = shape;
+    orders.iter().take(usize::from(pots)).all(
+        |order| matches!(order, Some(order) if is_order(order, groups)),
+    )
 }
 
 // The team of the first ball of an order that is in.

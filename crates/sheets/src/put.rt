@@ -1,5 +1,5 @@
 // What one record after the first makes of the sheet record.
-ghost use Rattle.std.specs.Prelude.{◌≡◌, ◌<◌, length, is_ok, if◌then◌else◌, Some, None, Ok, Err, nat_le, slice_index_or, slice_set};
+ghost use Rattle.std.specs.Prelude.{◌≡◌, ◌<◌, is_ok, if◌then◌else◌, Some, Ok, Err, nat_le};
 ghost use Rattle.records.specs.Refusals.{fault};
 ghost use Rattle.records.specs.declared.refusal.SheetRefusal.TheVariants.{TooManyPairs};
 ghost use Rattle.sheets.specs.Entrants.{entrant};
@@ -86,6 +86,7 @@ impl Sheet {
         ensures after { self.new ≡ (if is_ok result then taken self.old item else self.old) }
     {
         let shape = self.shape;
+        let out_of_range = SheetRefusal::OutOfRange.at(place);
         match item {
             Record::Shape { .. } => Err(SheetRefusal::ShapeMisplaced.at(place)),
             Record::Team {
@@ -119,11 +120,7 @@ impl Sheet {
             | Record::Pair { .. }
             | Record::Cap { .. }
             | Record::Bars { .. }
-            | Record::Script { .. } => {
-                // written out: behind a call the proof would not know which of these came
-                let refusal = SheetRefusal::OutOfRange;
-                Err(SheetFault { refusal, place })
-            }
+            | Record::Script { .. } => Err(out_of_range),
         }
     }
 }

@@ -51,6 +51,7 @@ impl Sheet {
     pub fn code(&self, team: u8) -> [u8; 3]
         ensures { result ≡ code_of self.now team }
     {
+        // no `map_or`: the proof does not see the array that its closure returns
         match self.entrant(team) {
             Some(entrant) => entrant.code,
             None => [b'-'; 3],

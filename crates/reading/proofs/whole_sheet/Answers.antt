@@ -1,9 +1,6 @@
-use Rattle.std.proofs.Common.{◌≡◌, sym, arith}
+use Rattle.std.proofs.Common.{sym, arith}
 use Rattle.std.proofs.lemmas.List.{take_rest}
-use Rattle.std.proofs.lemmas.Result.{err_from_is_err_and}
-use Rattle.reading.specs.Reading.{reading}
-use Rattle.reading.proofs.Exact.{exactly}
-use Rattle.reading.proofs.Going.{start, start_err, size_fits, size_some, record_err, put_err, put_more, ended}
+use Rattle.reading.proofs.Going.{start, start_err, size_fits, size_some, record_err, put_err, put_more, ended, refuses}
 use Rattle.reading.proofs.whole_sheet.Goals as goal
 
 pub loop-item-init : goal.loop-item-init
@@ -22,33 +19,20 @@ loop-item-preserved c =
 
 pub returns-in_err-sheet : goal.returns-in_err-sheet
 returns-in_err-sheet c =
-    let p = err_from_is_err_and c.from_residual.result c.from_residual.ensures.1 in
-    let e : c.from_residual.result ≡ reading c.args.bytes.now =
-    rw (p.1, p.2) (sym (start_err c.args.bytes.now _ (sym c.in_err-sheet.ensures))) in
-    record { value = e; exact = exactly _ _ e }
+    refuses _ _ _ c.from_residual.ensures.1 (sym (start_err c.args.bytes.now _ (sym c.in_err-sheet.ensures)))
 
 pub returns-in_err-item : goal.returns-in_err-item
 returns-in_err-item c =
-    let p = err_from_is_err_and c.from_residual-in_err-item.result c.from_residual-in_err-item.ensures.1 in
-    let e : c.from_residual-in_err-item.result ≡ reading c.args.bytes.now =
-    rw (p.1, p.2) (record_err _ _ _ c.loop-item.invariant _ (rw take_rest at (sym c.in_err-item.ensures))) in
-    record { value = e; exact = exactly _ _ e }
+    refuses _ _ _ c.from_residual-in_err-item.ensures.1 (record_err _ _ _ c.loop-item.invariant _ (rw take_rest at (sym c.in_err-item.ensures)))
 
 pub returns-in_err-put : goal.returns-in_err-put
 returns-in_err-put c =
-    let p = err_from_is_err_and c.from_residual-in_err-put.result c.from_residual-in_err-put.ensures.1 in
-    let e : c.from_residual-in_err-put.result ≡ reading c.args.bytes.now =
-    rw (p.1, p.2) (put_err _ _ _ c.loop-item.invariant _ (rw take_rest at (sym c.in_ok-item.ensures)) c.in_default.not-End _ (sym c.in_err-put.ensures.answer)) in
-    record { value = e; exact = exactly _ _ e }
+    refuses _ _ _ c.from_residual-in_err-put.ensures.1 (put_err _ _ _ c.loop-item.invariant _ (rw take_rest at (sym c.in_ok-item.ensures)) c.in_default.not-End _ (sym c.in_err-put.ensures.answer))
 
 pub returns-in_err-close : goal.returns-in_err-close
 returns-in_err-close c =
-    let p = err_from_is_err_and c.from_residual-in_err-close.result c.from_residual-in_err-close.ensures.1 in
-    let e : c.from_residual-in_err-close.result ≡ reading c.args.bytes.now =
-    rw (p.1, p.2) (ended _ _ _ c.loop-item.invariant _ (rw take_rest at (sym c.in_ok-item.ensures)) c.in-End.is _ (sym c.in_err-close.ensures)) in
-    record { value = e; exact = exactly _ _ e }
+    refuses _ _ _ c.from_residual-in_err-close.ensures.1 (ended _ _ _ c.loop-item.invariant _ (rw take_rest at (sym c.in_ok-item.ensures)) c.in-End.is _ (sym c.in_err-close.ensures))
 
 pub returns : goal.returns
 returns c =
-    let e = ended _ _ _ c.loop-item.invariant _ (rw take_rest at (sym c.in_ok-item.ensures)) c.in-End.is _ (sym c.in_ok-close.ensures) in
-    record { value = e; exact = exactly _ _ e }
+    ended _ _ _ c.loop-item.invariant _ (rw take_rest at (sym c.in_ok-item.ensures)) c.in-End.is _ (sym c.in_ok-close.ensures)
