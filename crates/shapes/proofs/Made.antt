@@ -22,5 +22,5 @@ module _ {F B : Type 0} (g : Mut F (ℕ × Unit {0}) B) (f : F) (ys : List B) (k
 pub made_by : {F B : Type 0} (g : Mut F (ℕ × Unit {0}) B) (f : F) (value : ℕ → B) → ((i : ℕ) (y : B) (q : F) → Called g f (i, tt) y q → (q ≡ f) × (y ≡ value i)) → (n : ℕ) (ys : List B) → B → IsFromFnResult g f ys n → ys ≡ map value (range_with_len 0 n)
 made_by g f value steady n ys d all =
     fill_by_all value ys n d all.long (λ k low.
-        let (y, here, called) = made g f ys (λ a y q e. (steady a.0 y q e).0) 0 n all.each k (omega arith) (omega arith) in
-        here.1 d ∙ (steady k y f called).1)
+    let (y, here, called) = made g f ys (λ a y q e. (steady a.0 y q e).0) 0 n all.each k (omega arith) (omega arith) in
+    here.1 d ∙ (steady k y f called).1)
