@@ -47,7 +47,7 @@ ScriptHolds s team = (is_in_set s.balls team ≡ true) × ((place : ℕ) × At s
 
 -- the same orders, and every ball but that of a team
 abbrev pub without_ball : Script → ℕ → Script
-without_ball s team = record { orders = s.orders; balls = without s.balls team }
+without_ball s team = record s { balls = without s.balls team }
 
 -- asked for a ball of a pot, it gives the first that is in, or none where none is
 abbrev pub ScriptAnswers : Script → ℕ → Option ℕ → Script → Type 0

@@ -115,76 +115,22 @@ once_ordered s pot o at =
 
 -- the sheet record with one thing more
 abbrev pub with_team : Sheet → ℕ → Entrant → Sheet
-with_team s n e = record {
-  shape = s.shape;
-  teams = slice_set s.teams n (Some e);
-  pairs = s.pairs;
-  listed = s.listed;
-  caps = s.caps;
-  bars = s.bars;
-  seed = s.seed;
-  scripts = s.scripts;
-}
+with_team s n e = record s { teams = slice_set s.teams n (Some e) }
 
 abbrev pub with_pair : Sheet → ℕ → ℕ → Sheet
-with_pair s a b = record {
-  shape = s.shape;
-  teams = s.teams;
-  pairs = slice_set s.pairs s.listed (a, b);
-  listed = s.listed + 1;
-  caps = s.caps;
-  bars = s.bars;
-  seed = s.seed;
-  scripts = s.scripts;
-}
+with_pair s a b = record s { pairs = slice_set s.pairs s.listed (a, b); listed = s.listed + 1 }
 
 abbrev pub with_cap : Sheet → ℕ → ℕ → Sheet
-with_cap s a m = record {
-  shape = s.shape;
-  teams = s.teams;
-  pairs = s.pairs;
-  listed = s.listed;
-  caps = slice_set s.caps a (Some m);
-  bars = s.bars;
-  seed = s.seed;
-  scripts = s.scripts;
-}
+with_cap s a m = record s { caps = slice_set s.caps a (Some m) }
 
 abbrev pub with_bars : Sheet → ℕ → ℕ → Sheet
-with_bars s n g = record {
-  shape = s.shape;
-  teams = s.teams;
-  pairs = s.pairs;
-  listed = s.listed;
-  caps = s.caps;
-  bars = slice_set s.bars n (Some g);
-  seed = s.seed;
-  scripts = s.scripts;
-}
+with_bars s n g = record s { bars = slice_set s.bars n (Some g) }
 
 abbrev pub with_seed : Sheet → ℕ → Sheet
-with_seed s x = record {
-  shape = s.shape;
-  teams = s.teams;
-  pairs = s.pairs;
-  listed = s.listed;
-  caps = s.caps;
-  bars = s.bars;
-  seed = Some x;
-  scripts = s.scripts;
-}
+with_seed s x = record s { seed = Some x }
 
 abbrev pub with_script : Sheet → ℕ → List ℕ → Sheet
-with_script s pot o = record {
-  shape = s.shape;
-  teams = s.teams;
-  pairs = s.pairs;
-  listed = s.listed;
-  caps = s.caps;
-  bars = s.bars;
-  seed = s.seed;
-  scripts = slice_set s.scripts pot (Some o);
-}
+with_script s pot o = record s { scripts = slice_set s.scripts pot (Some o) }
 
 -- the sheet record after a record that is taken
 abbrev pub taken : Sheet → Record → Sheet
