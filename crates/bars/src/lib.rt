@@ -36,7 +36,7 @@ impl Bars {
         ensures { Exactly result (Barred self.now team group) }
     {
         self.barred
-            .get(team as usize)
+            .get(usize::from(team))
             .copied()
             .flatten()
             .is_some_and(|groups| has_bit(groups, group))

@@ -33,7 +33,7 @@ impl Mates {
         ensures answer { Exactly result (entry_at self.old.counts mate.association mate.group < mate.most) }
         ensures after { self.new.counts ≡ (if result then with_mate self.old.counts mate.association mate.group else self.old.counts) }
     {
-        let mates = &mut self.counts[mate.association as usize][mate.group as usize];
+        let mates = &mut self.counts[usize::from(mate.association)][usize::from(mate.group)];
         if *mates >= mate.most {
             return false;
         }

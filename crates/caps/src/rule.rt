@@ -25,14 +25,14 @@ impl Caps {
     fn association_of(&self, team: u8) -> Option<u8>
         ensures { result ≡ association_of self.now team }
     {
-        self.associations.get(team as usize).copied().flatten()
+        self.associations.get(usize::from(team)).copied().flatten()
     }
 
     // The cap of an association; none past the last number.
     fn cap_of(&self, association: u8) -> Option<u8>
         ensures { result ≡ cap_of self.now association }
     {
-        self.caps.get(association as usize).copied().flatten()
+        self.caps.get(usize::from(association)).copied().flatten()
     }
 
     // What a team counts as; none where it is not placed, or where its association has no cap.

@@ -14,7 +14,7 @@ impl Table {
         if !self.can_place(team, group) {
             return false;
         }
-        self.seats[team as usize] = Some(group);
+        self.seats[usize::from(team)] = Some(group);
         true
     }
 
@@ -24,7 +24,7 @@ impl Table {
         ensures after { Without self.old team self.new }
     {
         let group = self.group_of(team)?;
-        self.seats[team as usize] = None;
+        self.seats[usize::from(team)] = None;
         Some(group)
     }
 

@@ -17,7 +17,7 @@ impl Table {
     pub fn group_of(&self, team: u8) -> Option<u8>
         ensures { result ≡ group_of self.now team }
     {
-        self.seats.get(team as usize).copied().flatten()
+        self.seats.get(usize::from(team)).copied().flatten()
     }
 
     // Whether both teams are placed, in one group.
