@@ -28,7 +28,7 @@ impl Mates {
         }
     }
 
-    // Counts one more, where the group may have that many; tells whether it may.
+    // Counts one more, where the group may have that many; tells whether it may, with no value beside it.
     pub(crate) fn add(&mut self, mate: Mate) -> bool
         ensures answer { Exactly result (entry_at self.old.counts mate.association mate.group < mate.most) }
         ensures after { self.new.counts ≡ (if result then with_mate self.old.counts mate.association mate.group else self.old.counts) }

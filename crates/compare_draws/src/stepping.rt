@@ -4,34 +4,6 @@ use std::io;
 use std::io::Write;
 use tables::Table;
 
-// What is done to the table, or asked of it.
-#[derive(Clone, Copy)]
-enum Step {
-    Place(u8, u8),
-    Take(u8),
-    Group(u8),
-    Seat(u8, u8),
-    Together(u8, u8),
-}
-
-// The step that a part names, with the numbers of one of its words.
-fn step_of(name: &str, word: &str) -> Result<Step, CaseError> {
-    match name {
-        "take" => Ok(Step::Take(word.parse()?)),
-        "group" => Ok(Step::Group(word.parse()?)),
-        _ => of_two(name, two(word, ':')?),
-    }
-}
-
-fn of_two(name: &str, (first, second): (u8, u8)) -> Result<Step, CaseError> {
-    match name {
-        "place" => Ok(Step::Place(first, second)),
-        "seat" => Ok(Step::Seat(first, second)),
-        "together" => Ok(Step::Together(first, second)),
-        _ => Err(CaseError::Broken),
-    }
-}
-
 fn write_number<W: Write>(out: &mut W, number: Option<u8>) -> io::Result<()> {
     match number {
         Some(number) => write!(out, "{number} "),
@@ -39,18 +11,36 @@ fn write_number<W: Write>(out: &mut W, number: Option<u8>) -> io::Result<()> {
     }
 }
 
-fn take_step<W: Write>(out: &mut W, table: &mut Table, step: Step) -> io::Result<()> {
-    match step {
-        Step::Place(team, group) => write!(out, "{} ", said(table.place(team, group))),
-        Step::Take(team) => write_number(out, table.take_off(team)),
-        Step::Group(team) => write_number(out, table.group_of(team)),
-        Step::Seat(pot, group) => write_number(out, table.team_at(pot, group)),
-        Step::Together(one, other) => write!(out, "{} ", said(table.together(one, other))),
+// Does to the table what a word of a part with this name says, or asks it; no step has another name.
+fn take_step<W: Write>(
+    out: &mut W,
+    table: &mut Table,
+    name: &str,
+    word: &str,
+) -> Result<(), CaseError> {
+    match name {
+        "take" => write_number(out, table.take_off(word.parse()?))?,
+        "group" => write_number(out, table.group_of(word.parse()?))?,
+        "place" => {
+            let (team, group) = two(word, ':')?;
+            write!(out, "{} ", said(table.place(team, group)))?;
+        }
+        "seat" => {
+            let (pot, group) = two(word, ':')?;
+            write_number(out, table.team_at(pot, group))?;
+        }
+        "together" => {
+            let (one, other) = two(word, ':')?;
+            write!(out, "{} ", said(table.together(one, other)))?;
+        }
+        _ => return Err(CaseError::Broken),
     }
+    Ok(())
 }
 
 fn write_table<W: Write>(out: &mut W, table: &Table) -> io::Result<()> {
     write!(out, "table")?;
+    // every number is asked, also those of no team
     for team in 0..=255 {
         if let Some(group) = table.group_of(team) {
             write!(out, " {team}:{group}")?;
@@ -64,7 +54,7 @@ pub(crate) fn answer<W: Write>(out: &mut W, case: Case<'_>) -> Result<(), CaseEr
     let mut table = Table::new();
     for (name, words) in case.parts.split(',').map(name_and_words) {
         for word in words.split_whitespace() {
-            take_step(out, &mut table, step_of(name, word)?)?;
+            take_step(out, &mut table, name, word)?;
         }
     }
     write_table(out, &table)?;

@@ -18,6 +18,7 @@ pub enum Layer {
 }
 
 impl Layer {
+    // A method of this name, since `u8::from` would not say that the number is the published one.
     pub fn number(self) -> u8
         ensures { result ≡ layer_number self }
     {
@@ -29,7 +30,8 @@ impl Layer {
     }
 }
 
-// A refusal as every layer tells it: the layer that refused, the refusal's number, and where it came about.
+// A refusal as every layer tells it: the layer that refused, the refusal's number, and where it came about. A number
+// and no enum, since the refusals of the layers above are not known here.
 #[derive(Clone, Copy, PartialEq, Eq, Debug)]
 pub struct Fault {
     pub layer: Layer,
@@ -44,6 +46,7 @@ pub enum TextRefusal {
 }
 
 impl TextRefusal {
+    // A method, as `Layer::number`.
     pub fn number(self) -> u8
         ensures { result ≡ text_number self }
     {

@@ -18,6 +18,7 @@ pub enum SheetRefusal {
 }
 
 impl SheetRefusal {
+    // A method of this name, since `u8::from` would not say that the number is the published one.
     pub fn number(self) -> u8
         ensures { result ≡ number_of self }
     {

@@ -23,7 +23,7 @@ pub struct Sheet {
     pub listed: usize,
     // by association, from 1
     pub caps: [Option<u8>; 65],
-    // by team number: bit g bars group g
+    // by team number: bit g bars group g; not beside the entrant, since a B may come before its team's T
     pub bars: [Option<u16>; 96],
     pub seed: Option<u64>,
     // by pot

@@ -6,7 +6,8 @@ ghost use Rattle.tables.specs.Tables.{Placeable, With, Without, group_of};
 use crate::table::Table;
 
 impl Table {
-    // Places a team in a group, where it can be placed there, and tells whether it could.
+    // Places a team in a group, where it can be placed there, and tells whether it could: a yes or no, as from an
+    // insertion into a set, since there is no value beside it.
     pub fn place(&mut self, team: u8, group: u8) -> bool
         ensures answer { Exactly result (Placeable self.old team group) }
         ensures after { MatchBool result (With self.old team group self.new) (self.new ≡ self.old) }
