@@ -25,6 +25,7 @@ impl Line<'_> {
     fn write_teams<W: fmt::Write>(&self, f: &mut Formatter<W>) -> fmt::Result {
         for (team, entrant) in self.0.teams.iter().enumerate() {
             if let Some(entrant) = entrant {
+                // in a T, 0 says that there is none
                 let association = entrant.association.unwrap_or(0);
                 write!(f, ", T {team} {association} {}", Code(entrant.code))?;
             }

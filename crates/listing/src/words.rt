@@ -57,6 +57,7 @@ pub(crate) struct Letters(pub u16);
 impl fmt::Display for Letters {
     fn fmt<W: fmt::Write>(&self, f: &mut fmt::Formatter<W>) -> fmt::Result {
         let barred = self.0;
+        // a B without a bit is a B all the same
         if barred == 0 {
             return write!(f, "in any group");
         }

@@ -4,7 +4,8 @@
 ghost use Rattle.std.specs.Prelude.{◌≡◌, ◌<◌, ◌≤◌, Decides};
 ghost use Rattle.orders.specs.Orders.{InPlace, OrderOf, all_in_place, is_order};
 
-// Whether a ball of the pot stands at a place for the first time, or 255 behind the last ball.
+// Whether a ball of the pot stands at a place for the first time, or 255 behind the last ball: the bytes are those of
+// an S, in which 255 marks that no ball comes.
 fn in_place(order: &[u8; 16], place: usize, balls: u8) -> bool
     requires { place < 16 }
     ensures { Decides result (InPlace balls order.now place) }
