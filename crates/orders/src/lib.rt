@@ -18,7 +18,8 @@ fn in_place(order: &[u8; 16], place: usize, balls: u8) -> bool
     }
 }
 
-// Whether each byte is in its place. That makes them an order where there are at most 16 balls.
+// Whether each byte is in its place. That makes them an order where there are at most 16 balls. The bytes come from a
+// record and the number from a shape, so they stay two arguments.
 pub fn all_in_place(order: &[u8; 16], balls: u8) -> bool
     ensures test { result ≡ all_in_place balls order.now }
     ensures exact { balls ≤ 16 → Decides result (OrderOf balls order.now) }

@@ -10,6 +10,7 @@ use std::io::Read;
 const MOST: usize = 4096;
 
 fn main(rt: HostRuntime) -> io::Result<()> {
+    // a fixed buffer, since the program has no heap
     let mut buf = [0; MOST];
     let taken = io::copy(&mut rt.stdin().take(MOST as u64), &mut &mut buf[..])?;
     // `take` lets no more through than fits; `min` tells the check so.
