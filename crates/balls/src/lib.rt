@@ -8,7 +8,7 @@ use shapes::Shape;
 use std::array;
 
 // One flag for each team number.
-#[derive(Clone, Copy)]
+#[derive(Clone, Copy, PartialEq, Eq, Debug)]
 pub struct BallSet {
     inside: [bool; 96],
 }
@@ -18,6 +18,7 @@ impl BallSet {
     pub fn of_shape(shape: Shape) -> BallSet
         ensures { result ≡ of_shape shape }
     {
+        // a place below 96 is a byte
         BallSet {
             inside: array::from_fn(|team| shape.has_team(team as u8)),
         }
@@ -43,6 +44,7 @@ impl BallSet {
     pub fn count(&self, pot: u8) -> u8
         ensures { result ≡ count_in self.now pot }
     {
+        // at most 16, and so a byte
         (0..16).filter(|&ball| self.has_ball(pot, ball)).count() as u8
     }
 

@@ -5,7 +5,7 @@ ghost use Rattle.faults.specs.Text.{line_of};
 use faults::Fault;
 use std::fmt;
 
-#[derive(Clone, Copy)]
+#[derive(Clone, Copy, PartialEq, Eq, Debug)]
 pub struct Refusal(pub Fault);
 
 impl fmt::Display for Refusal {

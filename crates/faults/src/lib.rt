@@ -7,7 +7,7 @@ ghost use Rattle.faults.specs.Text.{answered, line_of, written};
 
 mod text;
 
-pub use text::Line;
+pub use text::FaultLine;
 
 // The layer that refused.
 #[derive(Clone, Copy, PartialEq, Eq, Debug)]

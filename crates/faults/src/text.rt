@@ -7,11 +7,11 @@ use arrayvec::ArrayString;
 use itoa::Buffer;
 
 // The text of one line. It has room for that of any fault, so that none needs a heap.
-pub type Line = ArrayString<40>;
+pub type FaultLine = ArrayString<40>;
 
 impl Fault {
     // The line that tells of the fault.
-    pub fn line(self) -> Line
+    pub fn line(self) -> FaultLine
         ensures text { result.bytes ≡ line_of self }
         ensures short { length result.bytes ≤ 35 }
     {
@@ -27,7 +27,7 @@ impl Fault {
     }
 }
 
-// Puts `text` at the front of `tail`.
+// Puts `text` at the front of `tail`, what is left of a caller's buffer from the place that it names.
 pub(crate) fn put_text(tail: &mut [u8], text: &[u8])
     requires { length text.now ≤ length tail.old }
     ensures { tail.new ≡ over text.now tail.old }

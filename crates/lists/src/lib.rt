@@ -68,6 +68,7 @@ impl<'a, T: Copy> List<'a, T> {
         ensures count { self.new.count ≡ counted self.old.memory.now self.old.count }
         ensures lender { self.new.memory.ghost_name ≡ self.old.memory.ghost_name }
     {
+        // a test, and no `get_mut` with `?`: the proof would not see that a refusal leaves the memory as it is
         if self.count == self.memory.len() {
             return Err(ListRefusal::Full);
         }

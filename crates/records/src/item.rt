@@ -5,7 +5,7 @@ ghost use Rattle.records.specs.Forms.{decoded, size_of};
 use crate::refusal::{SheetFault, SheetRefusal};
 
 // What a record says, its fields not yet compared with the shape.
-#[derive(Clone, Copy)]
+#[derive(Clone, Copy, PartialEq, Eq, Debug)]
 pub enum Record {
     Shape {
         groups: u8,
@@ -59,6 +59,7 @@ impl Record {
 pub fn record_at(rest: &[u8], place: usize) -> Result<Record, SheetFault>
     ensures { result ≡ decoded rest.now place }
 {
+    // made before the `match`: behind the arms that meet there, the proof would not know which came
     let cut_short = SheetRefusal::CutShort.at(place);
     match *rest {
         [b'G', groups, pots, ..] => Ok(Record::Shape { groups, pots }),

@@ -14,7 +14,7 @@ use shapes::Shape;
 use sources::BallSource;
 
 // The balls that are in, and by pot the order in which they come.
-#[derive(Clone, Copy)]
+#[derive(Clone, Copy, PartialEq, Eq, Debug)]
 pub struct Script {
     orders: [Option<[u8; 16]>; 6],
     balls: BallSet,

@@ -1,4 +1,4 @@
--- What one entry more, or one less, leaves of the others.
+-- The entries of a table, and what one entry less leaves of them.
 use Rattle.std.proofs.Common.{◌≡◌, ℕ, ◌<◌, ◌≤◌, ◌⊎◌, List, length, set, replicate, Some, None, Option, refl, inl, inr, arith}
 use Rattle.std.proofs.lemmas.List.{get_or-replicate, get_or_past}
 use Rattle.std.proofs.lemmas.Grind.{common_steps}

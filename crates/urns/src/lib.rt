@@ -33,11 +33,12 @@ fn picked(balls: &BallSet, pot: u8, number: u64) -> Option<u8>
     ensures { Picked balls.now pot number result }
 {
     let lower = number.checked_rem(u64::from(balls.count(pot)))?;
+    // below the count, and so a byte
     balls.with_lower(pot, lower as u8)
 }
 
 // The balls that are still in, and the number that the next pick steps from.
-#[derive(Clone, Copy)]
+#[derive(Clone, Copy, PartialEq, Eq, Debug)]
 pub struct Urn {
     number: u64,
     balls: BallSet,
