@@ -1,5 +1,5 @@
 // The case `urn GROUPS POTS SEED, give POT ..`, and what any ball source is asked.
-use crate::words::{Case, CaseError, shape_of};
+use crate::words::{Case, CaseError, OrDash, shape_of};
 use sources::BallSource;
 use std::io::Write;
 use urns::Urn;
@@ -12,13 +12,10 @@ pub(crate) fn ask_all<W: Write, S: BallSource>(
 ) -> Result<(), CaseError> {
     write!(out, "gave")?;
     for word in case.words_of("give").split_whitespace() {
-        match source.give(word.parse()?) {
-            Some(team) => write!(out, " {team}")?,
-            None => write!(out, " -")?,
-        }
+        write!(out, " {}", OrDash(source.give(word.parse()?)))?;
     }
     write!(out, " in")?;
-    for team in (0..=255).filter(|team| source.holds_ball(*team)) {
+    for team in (0..=255).filter(|&team| source.holds_ball(team)) {
         write!(out, " {team}")?;
     }
     Ok(())

@@ -6,7 +6,7 @@ use urns::{mix, step};
 
 pub(crate) fn answer<W: Write>(out: &mut W, case: Case<'_>) -> Result<(), CaseError> {
     let (seed, count) = two::<u64, u16>(case.head, ' ')?;
-    let numbers = iter::successors(Some(step(seed)), |number| Some(step(*number)));
+    let numbers = iter::successors(Some(step(seed)), |&number| Some(step(number)));
     for (place, number) in numbers.take(usize::from(count)).enumerate() {
         if place > 0 {
             write!(out, " ")?;

@@ -1,15 +1,8 @@
 // The case `table GROUPS POTS, STEP ..`: one table, changed and asked in turn.
-use crate::words::{Case, CaseError, name_and_words, said, shape_of, two};
+use crate::words::{Case, CaseError, OrDash, name_and_words, said, shape_of, two};
 use std::io;
 use std::io::Write;
 use tables::Table;
-
-fn write_number<W: Write>(out: &mut W, number: Option<u8>) -> io::Result<()> {
-    match number {
-        Some(number) => write!(out, "{number} "),
-        None => write!(out, "- "),
-    }
-}
 
 // Does to the table what a word of a part with this name says, or asks it; no step has another name.
 fn take_step<W: Write>(
@@ -19,15 +12,15 @@ fn take_step<W: Write>(
     word: &str,
 ) -> Result<(), CaseError> {
     match name {
-        "take" => write_number(out, table.take_off(word.parse()?))?,
-        "group" => write_number(out, table.group_of(word.parse()?))?,
+        "take" => write!(out, "{} ", OrDash(table.take_off(word.parse()?)))?,
+        "group" => write!(out, "{} ", OrDash(table.group_of(word.parse()?)))?,
         "place" => {
             let (team, group) = two(word, ':')?;
             write!(out, "{} ", said(table.place(team, group)))?;
         }
         "seat" => {
             let (pot, group) = two(word, ':')?;
-            write_number(out, table.team_at(pot, group))?;
+            write!(out, "{} ", OrDash(table.team_at(pot, group)))?;
         }
         "together" => {
             let (one, other) = two(word, ':')?;
@@ -40,11 +33,8 @@ fn take_step<W: Write>(
 
 fn write_table<W: Write>(out: &mut W, table: &Table) -> io::Result<()> {
     write!(out, "table")?;
-    // every number is asked, also those of no team
-    for team in 0..=255 {
-        if let Some(group) = table.group_of(team) {
-            write!(out, " {team}:{group}")?;
-        }
+    for (team, group) in (0..=255).filter_map(|team| Some((team, table.group_of(team)?))) {
+        write!(out, " {team}:{group}")?;
     }
     Ok(())
 }

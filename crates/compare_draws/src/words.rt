@@ -1,9 +1,9 @@
 // How a case is written: parts between commas, words between spaces, numbers in decimal.
 use shapes::Shape;
 use std::alloc::AllocError;
-use std::io;
 use std::num::ParseIntError;
 use std::str::FromStr;
+use std::{fmt, io};
 use tables::Table;
 
 // Why a case is not answered to its end: it is broken, or the program cannot go on.
@@ -34,9 +34,9 @@ impl From<AllocError> for CaseError {
 // A line `KIND HEAD, PART, PART ..`.
 #[derive(Clone, Copy)]
 pub(crate) struct Case<'a> {
-    pub kind: &'a str,
-    pub head: &'a str,
-    pub parts: &'a str,
+    pub(crate) kind: &'a str,
+    pub(crate) head: &'a str,
+    pub(crate) parts: &'a str,
 }
 
 impl<'a> Case<'a> {
@@ -62,7 +62,7 @@ pub(crate) fn name_and_words(part: &str) -> (&str, &str) {
     part.split_once(' ').unwrap_or((part, ""))
 }
 
-// The numbers before and behind a sign, as those of 16:3.
+// The numbers before and behind a sign, as those of 16:3. The first is dropped where the second does not parse.
 pub(crate) fn two<A, B>(text: &str, sign: char) -> Result<(A, B), CaseError>
 where
     A: FromStr<Err = ParseIntError> + Drop,
@@ -86,6 +86,19 @@ pub(crate) fn table_of(words: &str) -> Result<Table, CaseError> {
         let _ = table.place(team, group);
     }
     Ok(table)
+}
+
+// A number, or `-` where there is none.
+#[derive(Clone, Copy)]
+pub(crate) struct OrDash(pub(crate) Option<u8>);
+
+impl fmt::Display for OrDash {
+    fn fmt<W: fmt::Write>(&self, f: &mut fmt::Formatter<W>) -> fmt::Result {
+        match self.0 {
+            Some(number) => write!(f, "{number}"),
+            None => f.write_str("-"),
+        }
+    }
 }
 
 pub(crate) fn said(yes: bool) -> &'static str {

@@ -36,7 +36,7 @@ impl Listing<'_> {
     }
 
     fn write_pots<W: fmt::Write>(&self, f: &mut Formatter<W>) -> fmt::Result {
-        for team in (0..96).filter(|team| self.0.shape.has_team(*team)) {
+        for team in (0..96).filter(|&team| self.0.shape.has_team(team)) {
             if team % 16 == 0 {
                 writeln!(f, "Pot {}", team / 16 + 1)?;
             }
@@ -50,7 +50,11 @@ impl Listing<'_> {
     }
 
     fn write_pairs<W: fmt::Write>(&self, f: &mut Formatter<W>) -> fmt::Result {
-        writeln!(f, "{}", Heading("Pairs", self.0.listed > 0))?;
+        let heading = Heading {
+            title: "Pairs",
+            any: self.0.listed > 0,
+        };
+        writeln!(f, "{heading}")?;
         for (first, second) in self.0.pairs.iter().take(self.0.listed) {
             write!(f, "  {first:>2} {}", self.code(*first))?;
             writeln!(f, " and {second} {}", self.code(*second))?;
@@ -60,7 +64,7 @@ impl Listing<'_> {
 
     fn write_caps<W: fmt::Write>(&self, f: &mut Formatter<W>) -> fmt::Result {
         let any = self.0.caps.iter().skip(1).any(Option::is_some);
-        writeln!(f, "{}", Heading("Caps", any))?;
+        writeln!(f, "{}", Heading { title: "Caps", any })?;
         for (association, cap) in self.0.caps.iter().enumerate().skip(1) {
             if let Some(most) = cap {
                 writeln!(f, "  association {association}: at most {most} in a group")?;
@@ -71,7 +75,7 @@ impl Listing<'_> {
 
     fn write_bars<W: fmt::Write>(&self, f: &mut Formatter<W>) -> fmt::Result {
         let any = self.0.bars.iter().any(Option::is_some);
-        writeln!(f, "{}", Heading("Bars", any))?;
+        writeln!(f, "{}", Heading { title: "Bars", any })?;
         for (team, bars) in (0..96).zip(&self.0.bars) {
             if let Some(barred) = bars {
                 writeln!(f, "  {team:>2} {} {}", self.code(team), Letters(*barred))?;
@@ -86,12 +90,12 @@ impl Listing<'_> {
         }
         writeln!(f, "Source: script")?;
         // A pot's teams in the order of their balls; `---` where the number has no T.
-        for (pot, script) in self.0.scripts.iter().enumerate() {
+        for (pot, script) in (0..6).zip(&self.0.scripts) {
             if let Some(order) = script {
-                write!(f, "  pot {}:", pot + 1)?;
-                let pot = pot as u8;
+                write!(f, "  pot {}:", u16::from(pot) + 1)?;
                 for ball in order.iter().take(usize::from(self.0.shape.balls(pot))) {
-                    write!(f, " {}", self.code((16 * pot).saturating_add(*ball)))?;
+                    let team = pot.saturating_mul(16).saturating_add(*ball);
+                    write!(f, " {}", self.code(team))?;
                 }
                 writeln!(f)?;
             }

@@ -51,7 +51,7 @@ fn show_rules(
 ) -> io::Result<()> {
     let mut table = Table::new();
     for &(team, group) in placements {
-        let _placed = table.place(team, group);
+        let _ = table.place(team, group);
     }
     // Of five groups, 0 to 2 are the first half.
     let same_half = SameHalf::new(3, 20, 5);

@@ -7,7 +7,6 @@
 //   law `given` of the source.
 // - `admits`, which answers that exactly: yes where the table is admitted, and no where it is not.
 ghost use Rattle.std.specs.Prelude.{◌≡◌};
-ghost use Rattle.shapes.specs.Answers.{Exactly};
 ghost use Rattle.second_office.specs.Halves.{SameHalfAdmits, in_first_half};
 ghost use Rattle.std.proofs.Common.{rules};
 
@@ -15,7 +14,7 @@ use rules::ClashRule;
 use tables::Table;
 
 // The two teams, and how many groups there are. With an odd number of groups the first half has one more.
-#[derive(Clone, Copy)]
+#[derive(Clone, Copy, PartialEq, Eq, Debug)]
 pub struct SameHalf {
     one: u8,
     other: u8,

@@ -15,7 +15,7 @@ use sources::BallSource;
 use std::array;
 
 // By team number, the place at which the number was typed first; none where it was not typed, or its ball is out.
-#[derive(Clone, Copy)]
+#[derive(Clone, Copy, PartialEq, Eq, Debug)]
 pub struct Typed {
     places: [Option<usize>; 96],
 }
@@ -26,7 +26,7 @@ impl Typed {
         ensures { TypedFrom numbers.now result }
     {
         Typed {
-            places: places_of(numbers),
+            places: array::from_fn(|team| first_place(numbers, team)),
         }
     }
 
@@ -41,8 +41,8 @@ impl Typed {
         ensures { FirstOf self.now pot result }
     {
         (0..96)
-            .filter(|team| team / 16 == pot && self.place_of(*team).is_some())
-            .min_by_key(|team| self.place_of(*team))
+            .filter(|&team| team / 16 == pot && self.holds_ball(team))
+            .min_by_key(|&team| self.place_of(team))
     }
 }
 
@@ -66,18 +66,11 @@ impl BallSource for Typed {
     }
 }
 
-// For each team, the place at which its number stands first. It is shown here, so that `new` has no proof file.
-fn places_of(numbers: &[u8]) -> [Option<usize>; 96]
-    ensures { TypedFrom numbers.now (record { places = result }) }
-{
-    array::from_fn(|team| first_place(numbers, team))
-}
-
 // Where a number stands first; none where it does not stand.
 fn first_place(numbers: &[u8], team: usize) -> Option<usize>
     ensures { FirstPlace numbers.now (length numbers.now) team result }
 {
     numbers
         .iter()
-        .position(|number| usize::from(*number) == team)
+        .position(|&number| usize::from(number) == team)
 }

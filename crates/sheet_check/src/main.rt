@@ -12,7 +12,9 @@ const MOST: usize = 4096;
 fn main(rt: HostRuntime) -> io::Result<()> {
     // a fixed buffer, since the program has no heap
     let mut buf = [0; MOST];
-    let taken = io::copy(&mut rt.stdin().take(MOST as u64), &mut &mut buf[..])?;
+    let mut room = &mut buf[..];
+    // Between `usize` and `u64` there is no `From`; neither `as` loses anything.
+    let taken = io::copy(&mut rt.stdin().take(MOST as u64), &mut room)?;
     // `take` lets no more through than fits; `min` tells the check so.
     match checked(&buf[..MOST.min(taken as usize)]) {
         Ok(sheet) => rt.print(Listing(&sheet)),

@@ -2,7 +2,7 @@ use Rattle.std.proofs.Common.{rules, subst, sym, ◌∙◌, length, None, arith}
 use Rattle.second_office.specs.Typing.{FirstPlace}
 use Rattle.second_office.specs.Places.{place_low}
 use Rattle.shapes.proofs.Made.{made}
-use Rattle.second_office.proofs.typed.places_of.Goals as goal
+use Rattle.second_office.proofs.typed.Typed.new.Goals as goal
 
 pub returns : goal.returns
 returns c team low =
