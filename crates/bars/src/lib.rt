@@ -11,7 +11,7 @@ use tables::Table;
 
 // By team number, the groups that are barred to the team: bit g, worth 2^g, bars group g. A team with no entry may
 // stand in any group.
-#[derive(Clone, Copy)]
+#[derive(Clone, Copy, PartialEq, Eq, Debug)]
 pub struct Bars {
     barred: [Option<u16>; 96],
 }

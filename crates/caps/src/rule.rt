@@ -55,9 +55,10 @@ impl ClashRule for Caps {
 
     ghost removal = { λ rule before team after out kept a g most capped. omega (arith, kept a g most capped, fewer_mates rule before team after out a g) };
 
-    // One pass over the teams, which ends with the first team that is one too many: a loop, since the counts change.
+    // One pass over the teams, which ends with the first team that is one too many.
     fn admits(&self, table: &Table) -> bool {
         let mut mates = Mates::new();
+        // a loop: of a closure that changes the counts no proof knows what it answered
         for team in 0..96 {
             let Some(mate) = self.mate(table, team) else {
                 continue;

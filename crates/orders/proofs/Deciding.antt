@@ -1,9 +1,10 @@
 -- The test of an order decides what an order is.
-use Rattle.std.proofs.Common.{◌≡◌, ℕ, ◌<◌, ◌≤◌, Bool, eqb, List, get_or, Decides, sym, inl, inr, ⊎_elim, arith}
+use Rattle.std.proofs.Common.{◌≡◌, ℕ, ◌<◌, ◌≤◌, Bool, eqb, List, length, get_or, take, Decides, sym, ◌∙◌, inl, inr, ⊎_elim, arith}
 use Rattle.std.proofs.lemmas.Bool.{cases_lt, cases_order}
+use Rattle.std.proofs.lemmas.List.{get_or-take, length-take-le}
 use Rattle.std.proofs.lemmas.Bool.Decides.{nat_tests, Decides-like, Decides-not, Decides-eqb}
 use Rattle.shapes.proofs.Pigeons.{onto}
-use Rattle.orders.specs.Orders.{InPlace, OrderOf, stands_before, in_place, all_in_place}
+use Rattle.orders.specs.Orders.{Follows, InPlace, OrderOf, stands_before, in_place, all_in_place}
 use Rattle.orders.proofs.Scans.{decides_all, decides_any}
 
 decides_before : (o : List ℕ) (i : ℕ) → Decides (stands_before o i) ((j : ℕ) × (j < i) × (get_or o j 0 ≡ get_or o i 0))
@@ -25,6 +26,24 @@ decides_place balls o i =
 -- each place in order
 abbrev pub AllInPlace : ℕ → List ℕ → Type 0
 AllInPlace balls o = (i : ℕ) → i < 16 → InPlace balls o i
+
+-- each byte may stand behind those before it
+abbrev pub AllFollow : ℕ → List ℕ → Type 0
+AllFollow balls o = (i : ℕ) → i < 16 → Follows balls (take i o) (get_or o i 0)
+
+-- an answer to that is one to whether each place is in order
+pub place_like : (balls : ℕ) (o : List ℕ) (r : Bool) → length o ≡ 16 → Decides r (AllFollow balls o) → Decides r (AllInPlace balls o)
+place_like balls o r full = Decides-like r
+    (λ h i l. let n = length-take-le i o (omega arith) in let p = h i l in record {
+      ball = λ b. p.ball (omega arith);
+      once = λ b j k e. p.once (omega arith) j (omega arith) (get_or-take i o j 0 k ∙ e);
+      rest = λ g. p.rest (omega arith);
+    })
+    (λ h i l. let n = length-take-le i o (omega arith) in let p = h i l in record {
+      ball = λ b. p.ball (omega arith);
+      once = λ b j k e. let before : j < i = omega arith in p.once (omega arith) j before (sym (get_or-take i o j 0 before) ∙ e);
+      rest = λ g. p.rest (omega arith);
+    })
 
 apart_places : (balls : ℕ) (o : List ℕ) → balls ≤ 16 → AllInPlace balls o → (i j : ℕ) → i < balls → j < balls → get_or o i 0 ≡ get_or o j 0 → i ≡ j
 apart_places balls o few h i j bi bj e =

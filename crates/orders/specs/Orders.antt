@@ -1,5 +1,5 @@
 -- An order of a pot's balls, in sixteen bytes. Assumes nothing.
-use Rattle.std.specs.Prelude.{◌≡◌, ℕ, ◌<◌, ◌≤◌, Bool, cond, not, ◌&&◌, List, ◌==◌, ◌≢◌, nat_eq, nat_le, nat_lt, slice_index}
+use Rattle.std.specs.Prelude.{◌≡◌, ℕ, ◌<◌, ◌≤◌, Bool, cond, not, length, ◌&&◌, List, ◌==◌, ◌≢◌, nat_eq, nat_le, nat_lt, slice_index}
 use Rattle.orders.specs.Below.{all_below, any_below}
 
 -- the first places, as many as the pot has balls, have each ball once, and 255 stands behind them
@@ -14,6 +14,12 @@ pub record InPlace (balls : ℕ) (order : List ℕ) (i : ℕ) : Type 0 where
   pub ball : i < balls → slice_index order i < balls
   pub once : i < balls → (j : ℕ) → j < i → slice_index order j ≢ slice_index order i
   pub rest : balls ≤ i → slice_index order i ≡ 255
+
+-- what may stand behind the bytes before
+pub record Follows (balls : ℕ) (before : List ℕ) (byte : ℕ) : Type 0 where
+  pub ball : length before < balls → byte < balls
+  pub once : length before < balls → (j : ℕ) → j < length before → slice_index before j ≢ byte
+  pub rest : balls ≤ length before → byte ≡ 255
 
 -- The test of it, place by place
 

@@ -2,19 +2,17 @@
 #![tactic(auto)]
 
 ghost use Rattle.std.specs.Prelude.{◌≡◌, ◌<◌, ◌≤◌, Decides};
-ghost use Rattle.orders.specs.Orders.{InPlace, OrderOf, all_in_place, is_order};
+ghost use Rattle.orders.specs.Orders.{Follows, OrderOf, all_in_place, is_order};
 
-// Whether a ball of the pot stands at a place for the first time, or 255 behind the last ball: the bytes are those of
-// an S, in which 255 marks that no ball comes.
-fn in_place(order: &[u8; 16], place: usize, balls: u8) -> bool
-    requires { place < 16 }
-    ensures { Decides result (InPlace balls order.now place) }
+// Whether a byte may stand behind those before it: a ball of the pot that is none of them, or 255 behind the last ball.
+// The bytes are those of an S, in which 255 marks that no ball comes.
+fn may_follow(before: &[u8], byte: u8, balls: u8) -> bool
+    ensures { Decides result (Follows balls before.now byte) }
 {
-    let ball = order[place];
-    if place < usize::from(balls) {
-        ball < balls && !order[..place].contains(&ball)
+    if before.len() < usize::from(balls) {
+        byte < balls && !before.contains(&byte)
     } else {
-        ball == 255
+        byte == 255
     }
 }
 
@@ -24,7 +22,10 @@ pub fn all_in_place(order: &[u8; 16], balls: u8) -> bool
     ensures test { result ≡ all_in_place balls order.now }
     ensures exact { balls ≤ 16 → Decides result (OrderOf balls order.now) }
 {
-    (0..16).all(|place| in_place(order, place, balls))
+    order
+        .iter()
+        .enumerate()
+        .all(|(place, &byte)| may_follow(&order[..place], byte, balls))
 }
 
 // Whether the bytes are an order of so many balls; of more than 16 they never are.

@@ -11,11 +11,11 @@ impl Pairs {
     pub fn new(list: &[(u8, u8)]) -> Option<Pairs>
         ensures { Listing list.now result }
     {
-        if list.len() > 64 {
+        let mut places = [(0, 0); 64];
+        if list.len() > places.len() {
             return None;
         }
         let listed = list.len();
-        let mut places = [(0, 0); 64];
         places[..listed].copy_from_slice(list);
         Some(Pairs { places, listed })
     }
@@ -27,7 +27,7 @@ impl ClashRule for Pairs {
     ghost removal = { λ rule before team after out apart i low both. apart i low (together_before before team after out _ _ both) };
 
     fn admits(&self, table: &Table) -> bool {
-        // a loop over the slice, as the project has it here; it ends with the first pair that stands together
+        // a loop over the slice of listed pairs, the form laid down for this answer (docs/DECISIONS.md)
         for &(one, other) in &self.places[..self.listed] {
             if table.together(one, other) {
                 return false;

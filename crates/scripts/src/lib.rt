@@ -20,15 +20,23 @@ pub struct Script {
     balls: BallSet,
 }
 
+// Whether there is an order of so many balls.
+fn has_order(order: &Option<[u8; 16]>, balls: u8) -> bool
+    ensures { Decides result (HasOrder balls order.now) }
+{
+    order.as_ref().is_some_and(|order| is_order(order, balls))
+}
+
 // Whether each pot of the shape has an order of its balls.
 fn all_ordered(shape: Shape, orders: &[Option<[u8; 16]>; 6]) -> bool
     requires { shape.pots ≤ 6 }
     ensures { Decides result ((pot : ℕ) → pot < shape.pots → HasOrder shape.groups (slice_index_or orders.now pot None)) }
 {
     let Shape { groups, pots } = shape;
-    orders.iter().take(usize::from(pots)).all(
-        |order| matches!(order, Some(order) if is_order(order, groups)),
-    )
+    orders
+        .iter()
+        .take(usize::from(pots))
+        .all(|order| has_order(order, groups))
 }
 
 // The team of the first ball of an order that is in.
@@ -62,18 +70,17 @@ impl Script {
 
     // Whether the ball of a team stands in the order of its pot.
     fn is_named(&self, team: u8) -> bool
-        requires { team < 96 }
         ensures { Decides result ((place : ℕ) × At self.now (pot_of team) place team) }
     {
-        matches!(&self.orders[usize::from(team / 16)], Some(order) if order.contains(&(team % 16)))
+        matches!(self.orders.get(usize::from(team / 16)), Some(Some(order)) if order.contains(&(team % 16)))
     }
 
     // The team whose ball comes next from a pot.
     fn first_in(&self, pot: u8) -> Option<u8>
         ensures { MatchOption result (NoneIn ScriptHolds self.now pot) (FirstIn self.now pot) }
     {
-        let order = self.orders.get(usize::from(pot)).copied().flatten()?;
-        first_of(&order, &self.balls, pot)
+        let order = self.orders.get(usize::from(pot))?.as_ref()?;
+        first_of(order, &self.balls, pot)
     }
 }
 

@@ -5,6 +5,7 @@ use Rattle.shapes.specs.Teams.{balls_of, has_team}
 use Rattle.orders.specs.Below.{all_below, any_below}
 use Rattle.orders.specs.Orders.{all_in_place}
 use Rattle.records.specs.declared.refusal.SheetFault.{SheetFault}
+use Rattle.records.specs.declared.refusal.SheetRefusal.{SheetRefusal}
 use Rattle.records.specs.declared.refusal.SheetRefusal.TheVariants.{ShapeMisplaced, OutOfRange, Repeated, TooManyPairs, NotAnOrder}
 use Rattle.records.specs.declared.item.Record.{Record}
 use Rattle.records.specs.declared.item.Record.TheVariants.{Shape as ShapeRecord, Team, Pair, Cap, Bars, Seed, Script, End}
@@ -83,7 +84,7 @@ crowded s (Seed x) = false
 crowded s (Script pot o) = false
 crowded s End = false
 
--- a script is an order of its pot
+-- a script is an order of its pot, where the pot has at most sixteen balls
 abbrev pub ordered : Shape → Record → Bool
 ordered sh (ShapeRecord g p) = true
 ordered sh (Team pot ball a c) = true
@@ -104,14 +105,19 @@ verdict s r at =
     (cond (ordered s.shape r) (Ok tt) (Err (fault NotAnOrder at)))))
     (Err (fault OutOfRange at)))
 
--- the answer where a record may come once
-abbrev pub once : {X : Type 0} → Option X → ℕ → Result (Unit {0}) SheetFault
-once o at = cond (is_some o) (Err (fault Repeated at)) (Ok tt)
+-- an answer, with the place of its record in a refusal
+abbrev pub placed : Result (Unit {0}) SheetRefusal → ℕ → Result (Unit {0}) SheetFault
+placed (Ok u) at = Ok u
+placed (Err refusal) at = Err (fault refusal at)
 
-abbrev pub once_ordered : Sheet → ℕ → List ℕ → ℕ → Result (Unit {0}) SheetFault
-once_ordered s pot o at =
-    cond (is_some (slice_index_or s.scripts pot None)) (Err (fault Repeated at))
-    (cond (all_in_place (balls_of s.shape pot) o) (Ok tt) (Err (fault NotAnOrder at)))
+-- the answer where a record may come once
+abbrev pub once : {X : Type 0} → Option X → Result (Unit {0}) SheetRefusal
+once o = cond (is_some o) (Err Repeated) (Ok tt)
+
+abbrev pub once_ordered : Sheet → ℕ → List ℕ → Result (Unit {0}) SheetRefusal
+once_ordered s pot o =
+    cond (is_some (slice_index_or s.scripts pot None)) (Err Repeated)
+    (cond (all_in_place (balls_of s.shape pot) o) (Ok tt) (Err NotAnOrder))
 
 -- the sheet record with one thing more
 abbrev pub with_team : Sheet → ℕ → Entrant → Sheet

@@ -12,7 +12,8 @@ pub struct Entrant {
     pub code: [u8; 3],
 }
 
-// What a sheet says. Every limit is the format's, so the memory is fixed.
+// What a sheet says. Every limit is the format's, so the memory is fixed. `==` compares the unused places of `pairs`
+// too.
 #[derive(Clone, Copy, PartialEq, Eq, Debug)]
 pub struct Sheet {
     pub shape: Shape,
