@@ -1,4 +1,7 @@
 // How a case is written: parts between commas, words between spaces, numbers in decimal.
+ghost use Rattle.std.specs.Prelude.{◌≡◌, ◌≢◌};
+ghost use Rattle.compare_draws.specs.declared.words.CaseError.{CaseError};
+
 use shapes::Shape;
 use std::alloc::AllocError;
 use std::num::ParseIntError;
@@ -14,18 +17,24 @@ pub(crate) enum CaseError {
 }
 
 impl From<ParseIntError> for CaseError {
+    ghost from_gives = { λ error case. case ≡ CaseError.Broken };
+
     fn from(_error: ParseIntError) -> CaseError {
         CaseError::Broken
     }
 }
 
 impl From<io::Error> for CaseError {
+    ghost from_gives = { λ error case. case ≡ CaseError.Io error };
+
     fn from(error: io::Error) -> CaseError {
         CaseError::Io(error)
     }
 }
 
 impl From<AllocError> for CaseError {
+    ghost from_gives = { λ error case. case ≢ CaseError.Broken };
+
     fn from(error: AllocError) -> CaseError {
         CaseError::Io(io::Error::from(error))
     }

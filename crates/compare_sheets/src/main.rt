@@ -1,7 +1,8 @@
 // Answers cases: a line of standard input is a sheet in base 16, its answer a line or a whole listing.
 #![tactic(auto)]
 
-ghost use Rattle.std.specs.Prelude.{◌<◌, IfSome};
+ghost use Rattle.std.specs.Prelude.{◌≡◌, ◌<◌, IfSome};
+ghost use Rattle.compare_sheets.specs.declared.CaseError.{CaseError};
 
 use checking::{Refusal, checked};
 use listing::{Line, Listing};
@@ -24,6 +25,8 @@ enum CaseError {
 }
 
 impl From<AllocError> for CaseError {
+    ghost from_gives = { λ error case. case ≡ CaseError.NoMemory error };
+
     fn from(error: AllocError) -> CaseError {
         CaseError::NoMemory(error)
     }
