@@ -1,5 +1,7 @@
 // How a case is written: parts between commas, words between spaces, numbers in decimal.
-ghost use Rattle.std.specs.Prelude.{◌≡◌, ◌≢◌};
+ghost use Rattle.std.specs.Prelude.{◌≡◌};
+ghost use Rattle.std.specs.IoError.{error_kind};
+ghost use Rattle.std.specs.declared.io.ErrorKind.TheVariants.{OutOfMemory};
 ghost use Rattle.compare_draws.specs.declared.words.CaseError.{CaseError};
 
 use shapes::Shape;
@@ -33,7 +35,7 @@ impl From<io::Error> for CaseError {
 }
 
 impl From<AllocError> for CaseError {
-    ghost from_gives = { λ error case. case ≢ CaseError.Broken };
+    ghost from_gives = { λ error case. (e : _) × (case ≡ CaseError.Io e) × (error_kind e ≡ OutOfMemory) };
 
     fn from(error: AllocError) -> CaseError {
         CaseError::Io(io::Error::from(error))
