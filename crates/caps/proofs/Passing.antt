@@ -40,7 +40,7 @@ module _ (counts : List (List ℕ)) (a g v : ℕ) (low : a < length counts) wher
   entry_other : (b h : ℕ) → (a ≡ b → g ≡ h → ⊥) → entry_at (written counts a g v) b h ≡ entry_at counts b h
   entry_other b h ne = grind (arith, common_steps)
 
-cap_low : (c : Caps) (a most : ℕ) → cap_of c a ≡ Some most → a < 65
+pub cap_low : (c : Caps) (a most : ℕ) → cap_of c a ≡ Some most → a < 65
 cap_low c a most capped = elim (cases_lt a 65) [
   | inl low ↦ low
   | inr past ↦ absurd (none_some (cap_of c a) most (cond-false (ltb a 65) _ None (le-ltb a 65 past)) capped)

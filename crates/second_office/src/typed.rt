@@ -6,13 +6,12 @@
 //   comes only where no ball of the pot is in, and changes nothing. The proofs of both stand in the `impl`: that of
 //   `given` cites a lemma of specs/Places.antt, and that of `refused` the check finds, by `Prim.search`.
 // - `holds_ball` and `give`, which answer what the definitions say.
-ghost use Rattle.std.specs.Prelude.{◌≡◌, length};
-ghost use Rattle.second_office.specs.Typing.{FirstOf, FirstPlace, TypedAnswers, TypedFrom, TypedHolds, place_of};
+ghost use Rattle.std.specs.Prelude.{◌≡◌};
+ghost use Rattle.second_office.specs.Typing.{FirstOf, TypedAnswers, TypedFrom, TypedHolds, place_of};
 ghost use Rattle.second_office.specs.Places.{typed_gave};
 ghost use Rattle.std.proofs.Common.{rules};
 
 use sources::BallSource;
-use std::array;
 
 // By team number, the place at which the number was typed first; none where it was not typed, or its ball is out.
 #[derive(Clone, Copy, PartialEq, Eq, Debug)]
@@ -26,7 +25,7 @@ impl Typed {
         ensures { TypedFrom numbers.now result }
     {
         Typed {
-            places: array::from_fn(|team| first_place(numbers, team)),
+            places: places_of(numbers),
         }
     }
 
@@ -66,11 +65,16 @@ impl BallSource for Typed {
     }
 }
 
-// Where a number stands first; none where it does not stand.
-fn first_place(numbers: &[u8], team: usize) -> Option<usize>
-    ensures { FirstPlace numbers.now (length numbers.now) team result }
+// For each team, the place at which its number stands first: one pass, where a search for each team would be 96.
+fn places_of(numbers: &[u8]) -> [Option<usize>; 96]
+    ensures { TypedFrom numbers.now (record { places = result }) }
 {
-    numbers
-        .iter()
-        .position(|&number| usize::from(number) == team)
+    let mut places = [None; 96];
+    for (place, &number) in numbers.iter().enumerate() {
+        let team = usize::from(number);
+        if team < 96 && places[team].is_none() {
+            places[team] = Some(place);
+        }
+    }
+    places
 }

@@ -13,6 +13,7 @@ use caps::Caps;
 use pairs::Pairs;
 use rules::{Both, ClashRule};
 use sheets::Sheet;
+use std::array;
 use tables::Table;
 
 // The rule of a sheet record, whatever is in it.
@@ -46,8 +47,8 @@ fn pairs_of(sheet: &Sheet) -> Pairs
 fn caps_of(sheet: &Sheet) -> Caps
     ensures { (t : Table) → CapsAdmit result t ↔ CapsKept sheet.now t }
 {
-    let associations = sheet
-        .teams
-        .map(|entrant| entrant.and_then(|entrant| entrant.association));
+    // by number, since `map` of an array takes a copy of it and moves each entry through two more; a place below 96 is
+    // a byte
+    let associations = array::from_fn(|team| sheet.association(team as u8));
     Caps::new(&associations, &sheet.caps)
 }
