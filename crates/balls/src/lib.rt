@@ -44,17 +44,20 @@ impl BallSet {
     pub fn count(&self, pot: u8) -> u8
         ensures { result ≡ count_in self.now pot }
     {
-        // at most 16, and so a byte
-        (0..16).filter(|&ball| self.has_ball(pot, ball)).count() as u8
+        (0..16).map(|ball| u8::from(self.has_ball(pot, ball))).sum()
     }
 
     // The ball of a pot that is in and has exactly `lower` lower balls of that pot in.
     pub fn with_lower(&self, pot: u8, lower: u8) -> Option<u8>
         ensures { WithLower self.now pot lower result }
     {
+        // each ball that is in takes one away, up to the one that finds none left
         let ball = (0..16)
-            .filter(|&ball| self.has_ball(pot, ball))
-            .nth(usize::from(lower))?;
+            .try_fold(lower, |left, ball| {
+                left.checked_sub(u8::from(self.has_ball(pot, ball)))
+                    .ok_or(ball)
+            })
+            .err()?;
         Some(16 * pot + ball)
     }
 
