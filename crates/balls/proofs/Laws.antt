@@ -2,12 +2,16 @@
 use Rattle.std.proofs.Common.{◌≡◌, ℕ, zero, suc, ◌+◌, ◌*◌, ◌%◌, ◌<◌, Bool, true, false, ◌&&◌, ltb, List, [], ◌∷◌, get_or, set, sym, refl, ap, ◌∙◌, inl, inr, arith}
 use Rattle.std.proofs.lemmas.List.FromFn.{get_or-map-range_with_len}
 use Rattle.std.proofs.lemmas.List.{get_or-set_other}
-use Rattle.std.proofs.lemmas.Bool.{and_right, cases_Bool, ltb-true}
+use Rattle.std.proofs.lemmas.Bool.{and_parts, and_right, cases_Bool, ltb-true}
 use Rattle.shapes.proofs.Counts as counts
 use Rattle.shapes.specs.declared.Shape.{Shape}
 use Rattle.shapes.specs.Teams.{balls_of, has_team, pot_of}
 use Rattle.balls.specs.Sets.{HasLower, count_first, count_in, has_ball, is_in_set, lower_in, of_shape, teams_of, without}
 use Rattle.balls.specs.declared.BallSet.{BallSet}
+
+-- team numbers end at 95
+pub in_below : (s : BallSet) (team : ℕ) → is_in_set s team ≡ true → team < 96
+in_below s team e = ltb-true team 96 (and_parts (ltb team 96) (get_or s.inside team false) e).0
 
 under : (x y z : Bool) → (x ≡ true → z ≡ (x && y)) → (x && z) ≡ (x && y)
 under true y z h = h refl

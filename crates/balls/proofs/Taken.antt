@@ -1,10 +1,10 @@
 -- A number that each ball that is in takes one from, up to the ball that finds none left.
-use Rattle.std.proofs.Common.{◌≡◌, ℕ, zero, suc, ◌+◌, ◌-◌, ◌<◌, ◌≤◌, Bool, true, false, cond, ltb, List, length, take, get_or, Option, Some, None, Result, Ok, Err, MatchOption, MatchResult, IsErrAnd, ControlFlow, Continue, Break, sym, refl, ap, subst, ◌∙◌, arith}
+use Rattle.std.proofs.Common.{◌≡◌, ℕ, zero, suc, ◌+◌, ◌-◌, ◌<◌, ◌≤◌, Bool, true, false, cond, ltb, List, length, take, Option, Some, None, Result, Ok, Err, MatchOption, MatchResult, IsErrAnd, ControlFlow, Continue, Break, sym, refl, ap, subst, ◌∙◌, arith}
 use Rattle.std.specs.Fn.{Called}
 use Rattle.std.specs.Iterator.{TryFoldsItems, TryFoldTurn}
 use Rattle.std.specs.Result.{result_err}
 use Rattle.std.specs.List.{FoldsTo, range_with_len}
-use Rattle.std.proofs.lemmas.Bool.{and_parts, ltb-true, ltb-false}
+use Rattle.std.proofs.lemmas.Bool.{ltb-true, ltb-false}
 use Rattle.std.proofs.lemmas.Iterator.{YieldsList}
 use Rattle.std.proofs.lemmas.Iterator.Consumers.{YieldsList-so_far, YieldsList-turn, YieldsList-end}
 use Rattle.std.proofs.lemmas.List.{map-id}
@@ -12,13 +12,7 @@ use Rattle.std.proofs.lemmas.List.FromFn.{length-range_with_len, get_or-range_wi
 use Rattle.shapes.specs.Counting.{count_below}
 use Rattle.shapes.proofs.Counts.{count_more, count_none}
 use Rattle.shapes.proofs.Ranges.{Nth}
-use Rattle.balls.specs.Sets.{is_in_set}
-use Rattle.balls.specs.declared.BallSet.{BallSet}
 use denote.Param.Members.{Mut}
-
--- team numbers end at 95
-pub in_below : (s : BallSet) (team : ℕ) → is_in_set s team ≡ true → team < 96
-in_below s team e = ltb-true team 96 (and_parts (ltb team 96) (get_or s.inside team false) e).0
 
 value : Result ℕ ℕ → ℕ
 value (Ok x) = x

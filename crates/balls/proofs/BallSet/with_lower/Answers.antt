@@ -4,7 +4,8 @@ use Rattle.std.proofs.lemmas.Iterator.{YieldsList-from_range}
 use Rattle.shapes.proofs.Ranges.{Nth}
 use Rattle.balls.specs.Sets.{has_ball}
 use Rattle.balls.proofs.Laws.{lower_at}
-use Rattle.balls.proofs.Taken.{handed, in_below, taker, told}
+use Rattle.balls.proofs.Laws.{in_below}
+use Rattle.balls.proofs.Taken.{handed, taker, told}
 use Rattle.balls.proofs.BallSet.with_lower.Goals as goal
 
 found : (c : goal.In_ok-ball) → Nth (has_ball c.args.self.now c.args.pot) c.args.lower 16 c.in_ok-ball.ball
