@@ -2,7 +2,7 @@
 #![tactic(auto)]
 
 ghost use Rattle.std.specs.Prelude.{◌≡◌};
-ghost use Rattle.bars.specs.Barred.{Barred, BarsAdmit, HasBit, Respected};
+ghost use Rattle.bars.specs.Barred.{BarsAdmit, Respected};
 ghost use Rattle.shapes.specs.Answers.{Exactly};
 ghost use Rattle.std.proofs.Common.{rules};
 
@@ -16,13 +16,6 @@ pub struct Bars {
     barred: [Option<u16>; 96],
 }
 
-// Whether bit g of a number is set: no bit past 15 is.
-fn has_bit(groups: u16, group: u8) -> bool
-    ensures { Exactly result (HasBit groups group) }
-{
-    group < 16 && (groups >> group) % 2 == 1
-}
-
 impl Bars {
     // The rule of these bars.
     pub fn new(barred: &[Option<u16>; 96]) -> Bars
@@ -31,24 +24,15 @@ impl Bars {
         Bars { barred: *barred }
     }
 
-    // Whether a group is barred to a team.
-    fn is_barred(&self, team: u8, group: u8) -> bool
-        ensures { Exactly result (Barred self.now team group) }
-    {
-        self.barred
-            .get(usize::from(team))
-            .copied()
-            .flatten()
-            .is_some_and(|groups| has_bit(groups, group))
-    }
-
     // Whether a team stands in no group that is barred to it.
     fn is_respected(&self, table: &Table, team: u8) -> bool
         ensures { Exactly result (Respected self.now table.now team) }
     {
-        table
-            .group_of(team)
-            .is_none_or(|group| !self.is_barred(team, group))
+        match (table.group_of(team), self.barred.get(usize::from(team))) {
+            // the group of a table, so below 16: a function of any group would test that at each team
+            (Some(group), Some(&Some(groups))) => (groups >> group) % 2 == 0,
+            _ => true,
+        }
     }
 }
 

@@ -1,10 +1,10 @@
 -- The test of an order decides what an order is.
-use Rattle.std.proofs.Common.{◌≡◌, ℕ, ◌<◌, ◌≤◌, Bool, eqb, List, length, get_or, take, Decides, sym, ◌∙◌, inl, inr, ⊎_elim, arith}
-use Rattle.std.proofs.lemmas.Bool.{cases_lt, cases_order}
+use Rattle.std.proofs.Common.{◌≡◌, ℕ, ◌<◌, ◌≤◌, Bool, eqb, leb, List, length, get_or, take, Decides, sym, ◌∙◌, inl, inr, ⊎_elim, arith}
+use Rattle.std.proofs.lemmas.Bool.{and_from, and_parts, cases_lt, cases_order, le-leb, leb-true}
 use Rattle.std.proofs.lemmas.List.{get_or-take, length-take-le}
 use Rattle.std.proofs.lemmas.Bool.Decides.{nat_tests, Decides-like, Decides-not, Decides-eqb}
 use Rattle.shapes.proofs.Pigeons.{onto}
-use Rattle.orders.specs.Orders.{Follows, InPlace, OrderOf, stands_before, in_place, all_in_place}
+use Rattle.orders.specs.Orders.{Follows, InPlace, OrderOf, stands_before, in_place, all_in_place, is_order}
 use Rattle.orders.proofs.Scans.{decides_all, decides_any}
 
 decides_before : (o : List ℕ) (i : ℕ) → Decides (stands_before o i) ((j : ℕ) × (j < i) × (get_or o j 0 ≡ get_or o i 0))
@@ -72,3 +72,10 @@ order_like balls o r few = Decides-like r (order_from balls o few) (λ p i l. re
 
 pub decides_order : (balls : ℕ) (o : List ℕ) → balls ≤ 16 → Decides (all_in_place balls o) (OrderOf balls o)
 decides_order balls o few = order_like balls o (all_in_place balls o) few (decides_each balls o)
+
+-- the same of the test that knows of too many balls: of those there is no order
+pub decides_is_order : (balls : ℕ) (o : List ℕ) → Decides (is_order balls o) ((balls ≤ 16) × OrderOf balls o)
+decides_is_order balls o = (
+  λ h. let q = and_parts (leb balls 16) (all_in_place balls o) h in let few = leb-true balls 16 q.0 in (few, (decides_order balls o few).0 q.1),
+  λ p. and_from (leb balls 16) (all_in_place balls o) (le-leb balls 16 p.0) ((decides_order balls o p.0).1 p.1),
+)

@@ -10,7 +10,8 @@ fn may_follow(before: &[u8], byte: u8, balls: u8) -> bool
     ensures { Decides result (Follows balls before.now byte) }
 {
     if before.len() < usize::from(balls) {
-        byte < balls && !before.contains(&byte)
+        // not `contains`, which is a call made for long slices
+        byte < balls && !before.iter().any(|&earlier| earlier == byte)
     } else {
         byte == 255
     }

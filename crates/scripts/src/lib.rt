@@ -2,7 +2,7 @@
 #![tactic(auto)]
 
 ghost use Rattle.std.specs.Prelude.{ℕ, ◌<◌, ◌≤◌, IfSome, None, Decides, MatchOption, slice_index_or};
-ghost use Rattle.shapes.specs.Teams.{pot_of};
+ghost use Rattle.shapes.specs.Teams.{balls_of, pot_of};
 ghost use Rattle.sources.specs.Sources.{NoneIn};
 ghost use Rattle.scripts.specs.Scripts.{At, Decided, FirstIn, FirstOf, HasOrder, HoldsTeams, Made, NoneOf, ScriptAnswers, ScriptHolds};
 ghost use Rattle.scripts.specs.Laws.{gave};
@@ -30,13 +30,11 @@ fn has_order(order: &Option<[u8; 16]>, balls: u8) -> bool
 // Whether each pot of the shape has an order of its balls.
 fn all_ordered(shape: Shape, orders: &[Option<[u8; 16]>; 6]) -> bool
     requires { shape.pots ≤ 6 }
-    ensures { Decides result ((pot : ℕ) → pot < shape.pots → HasOrder shape.groups (slice_index_or orders.now pot None)) }
+    ensures { Decides result ((pot : ℕ) → pot < shape.pots → HasOrder (balls_of shape pot) (slice_index_or orders.now pot None)) }
 {
-    let Shape { groups, pots } = shape;
-    orders
-        .iter()
-        .take(usize::from(pots))
-        .all(|order| has_order(order, groups))
+    (0..shape.pots)
+        .zip(orders)
+        .all(|(pot, order)| has_order(order, shape.balls(pot)))
 }
 
 // The team of the first ball of an order that is in.

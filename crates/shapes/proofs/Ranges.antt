@@ -16,12 +16,16 @@ module _ (p : ℕ → Bool) where
       let first : count_by p (range_with_len a (suc n)) ≡ cond (p a) 1 0 + count_by p (range_with_len (a + 1) n) = sum_by-cons (λ x. cond (p x) 1 0) a (range_with_len (a + 1) n) in
       omega (arith, count_more p a)
 
-  -- how many of a range pass, as a chain of iterators counts them
-  pub count_range : (n r : ℕ) → r ≡ length (filter p (range_with_len 0 n)) → r ≡ count_below p n
-  count_range n r e =
+  -- how many of a range pass, as a chain of iterators adds a one for each
+  pub count_sum : (n r : ℕ) → r ≡ count_by p (range_with_len 0 n) → r ≡ count_below p n
+  count_sum n r e =
       let f = count_from n 0 in
       let g : count_below p (0 + n) ≡ count_below p n = ap (count_below p) (omega arith) in
-      omega (arith, count_none p, length-filter p (range_with_len 0 n))
+      omega (arith, count_none p)
+
+  -- the same, as one counts them
+  pub count_range : (n r : ℕ) → r ≡ length (filter p (range_with_len 0 n)) → r ≡ count_below p n
+  count_range n r e = count_sum n r (e ∙ length-filter p (range_with_len 0 n))
 
 -- x is the number of those below n that passes with i others below it
 pub record Nth (p : ℕ → Bool) (i n x : ℕ) : Type 0 where
