@@ -13,9 +13,9 @@ use orders::is_order;
 use shapes::Shape;
 use sources::BallSource;
 
-// The balls that are in, and by pot the order in which they come. No `==`: it would look at what stands for a pot past
-// the last, which two scripts that give the same balls need not share.
-#[derive(Clone, Copy, Debug)]
+// The balls that are in, and by pot the order in which they come. No `==` and no `Debug`: they would look at what stands
+// for a pot past the last, which two scripts that give the same balls need not share.
+#[derive(Clone, Copy)]
 pub struct Script {
     orders: [Option<[u8; 16]>; 6],
     balls: BallSet,

@@ -24,9 +24,15 @@ impl Typed {
     pub fn new(numbers: &[u8]) -> Typed
         ensures { TypedFrom numbers.now result }
     {
-        Typed {
-            places: places_of(numbers),
+        // one pass, where a search for each team would be 96
+        let mut places = [None; 96];
+        for (place, &number) in numbers.iter().enumerate() {
+            let team = usize::from(number);
+            if team < 96 && places[team].is_none() {
+                places[team] = Some(place);
+            }
         }
+        Typed { places }
     }
 
     fn place_of(&self, team: u8) -> Option<usize>
@@ -63,18 +69,4 @@ impl BallSource for Typed {
         self.places[usize::from(team)] = None;
         Some(team)
     }
-}
-
-// For each team, the place at which its number stands first: one pass, where a search for each team would be 96.
-fn places_of(numbers: &[u8]) -> [Option<usize>; 96]
-    ensures { TypedFrom numbers.now (record { places = result }) }
-{
-    let mut places = [None; 96];
-    for (place, &number) in numbers.iter().enumerate() {
-        let team = usize::from(number);
-        if team < 96 && places[team].is_none() {
-            places[team] = Some(place);
-        }
-    }
-    places
 }

@@ -50,7 +50,7 @@ impl Shape {
         ensures count { result ≡ team_count self }
         ensures product { Sized self.groups self.pots → result ≡ self.groups * self.pots }
     {
-        // at most 96, and so a byte; as a sum of bytes it is done by vectors, where `filter` with `count` goes one by one
+        // at most 96, and so a byte; a sum of bytes is done by vectors, where `filter` with `count` goes one by one
         (0..96).map(|team| u8::from(self.has_team(team))).sum()
     }
 }

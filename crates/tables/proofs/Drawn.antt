@@ -1,5 +1,5 @@
 -- Full draws, containment, and the team of a seat, number by number.
-use Rattle.std.proofs.Common.{◌≡◌, ℕ, ◌+◌, ◌*◌, ◌<◌, ◌≤◌, Bool, true, false, length, get_or, Some, None, Option, MatchBool, MatchOption, arith, sym, refl, subst}
+use Rattle.std.proofs.Common.{◌≡◌, ℕ, ◌+◌, ◌*◌, ◌<◌, ◌≤◌, Bool, true, false, length, get_or, Some, None, Option, MatchBool, MatchOption, arith, sym, refl, ap, ◌∙◌, subst}
 use Rattle.std.proofs.lemmas.Slice.Zip.{get_or-zip, length-zip}
 use Rattle.std.specs.List.{AllWithin, HoldsAt, zip}
 use Rattle.shapes.specs.Answers.{Exactly}
@@ -55,6 +55,9 @@ module _ (t u : Table) where
 -- each contained in the other
 pub same_placements : (t u : Table) → ContainedIn t u → ContainedIn u t → (n : ℕ) → group_of t n ≡ group_of u n
 same_placements t u there back n = grind (arith, there n, back n, cases_some (group_of t n), cases_some (group_of u n))
+
+pub contained_equal : (t u : Table) → t ≡ u → ContainedIn t u
+contained_equal t u e n g p = ap (λ (x : Table). group_of x n) (sym e) ∙ p
 
 -- the first team of the pot that stands in the group, or none
 pub seated_from : (t : Table) (pot g : ℕ) (o : Option ℕ)

@@ -3,8 +3,7 @@ use Rattle.std.specs.Result.{result_from_control_flow}
 use Rattle.std.proofs.lemmas.Iterator.{YieldsList-from_range}
 use Rattle.shapes.proofs.Ranges.{Nth}
 use Rattle.balls.specs.Sets.{has_ball}
-use Rattle.balls.proofs.Laws.{lower_at}
-use Rattle.balls.proofs.Laws.{in_below}
+use Rattle.balls.proofs.Laws.{in_below, lower_at}
 use Rattle.balls.proofs.Taken.{handed, taker, told}
 use Rattle.balls.proofs.BallSet.with_lower.Goals as goal
 

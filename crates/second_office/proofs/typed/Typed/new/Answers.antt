@@ -1,8 +1,8 @@
 use Rattle.std.proofs.Common.{◌≡◌, ℕ, ◌+◌, true, List, Option, None, is_some, sym, subst, arith}
 use Rattle.std.specs.List.{slice_index, slice_index_or}
 use Rattle.second_office.specs.Places.{Noted, all_noted, none_noted, noted_before, noted_first}
-use Rattle.second_office.proofs.typed.places_of.Goals as goal
-use Rattle.second_office.proofs.typed.places_of.Goals.{then-team-lt96+then-is_none, else-team-lt96, else-team-lt96-via-then-team-lt96+else-is_none, else-team-lt96-via-else-team-lt96}
+use Rattle.second_office.proofs.typed.Typed.new.Goals as goal
+use Rattle.second_office.proofs.typed.Typed.new.Goals.{then-team-lt96+then-is_none, else-team-lt96, else-team-lt96-via-then-team-lt96+else-is_none, else-team-lt96-via-else-team-lt96}
 
 pub loop-place-init : goal.loop-place-init
 loop-place-init c = none_noted c.args.numbers.now
